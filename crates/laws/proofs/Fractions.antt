@@ -1,0 +1,127 @@
+-- Laws of fractions. A sum is compared over one common denominator, `q ≈ n // S`, so that what is left is an equation of numerators.
+use Prim.Native.Nat.{ℕ, zero, suc, _+_, _*_, _<_}
+use mathlib.Core.Path.{_≡_, refl, sym, ap, ap₂, _∙_}
+use native.Mathlib.Nat.{mul-pos, zero-lt-suc, eq-of-mul-eq-mul-right, mul-le-mul-right, le-of-mul-le-mul-right}
+use native.Mathlib.Omega.{arith}
+use Rattle.laws.specs.Sum.{over, Σ}
+use Rattle.laws.proofs.Sums.{over-related, over-cut}
+use Rattle.laws.specs.Fraction.{Fraction, _//_, _⊕_, _⊗_, _≈_, _≲_, sum}
+
+pub pos-left : (a b : ℕ) → 0 < a * b → 0 < a
+pos-left zero b h = omega arith
+pos-left (suc a) b h = zero-lt-suc a
+
+pub pos-right : (a b : ℕ) → 0 < a * b → 0 < b
+pos-right a b h = pos-left b a (omega arith)
+
+-- ---- equal and at most
+
+pub ≈-refl : {q : Fraction} → 0 < q .den → q ≈ q
+≈-refl p = record { cross = refl; left = p; right = p }
+
+pub ≈-sym : {q r : Fraction} → q ≈ r → r ≈ q
+≈-sym h = record { cross = sym (h .cross); left = h .right; right = h .left }
+
+pub ≈-trans : {q r s : Fraction} → q ≈ r → r ≈ s → q ≈ s
+≈-trans {q} {r} {s} h k = record {
+  cross = eq-of-mul-eq-mul-right (r .den) (h .right) _ _ (omega (arith, ap (λ t. t * s .den) (h .cross), ap (λ t. t * q .den) (k .cross)));
+  left = h .left;
+  right = k .right;
+}
+
+-- what equals a fraction is at most what that is at most
+pub ≈-≲ : {q r s : Fraction} → q ≈ r → r ≲ s → q ≲ s
+≈-≲ {q} {r} {s} h k = record {
+  cross = le-of-mul-le-mul-right {k = r .den} (omega (arith, ap (λ t. t * s .den) (h .cross), mul-le-mul-right (q .den) (k .cross))) (h .right);
+  left = h .left;
+  right = k .right;
+}
+
+-- a common factor c goes out
+pub cancel : {q : Fraction} {n S : ℕ} (c : ℕ) → q ≈ (n * c) // (S * c) → q ≈ n // S
+cancel {q} {n} {S} c h = record {
+  cross = eq-of-mul-eq-mul-right c (pos-left c S (omega (arith, h .right))) _ _ (omega (arith, h .cross));
+  left = h .left;
+  right = pos-left S c (h .right);
+}
+
+-- ---- sum and product
+
+-- sums can be regrouped as they stand, with no common factor left over
+pub ⊕-assoc : (q r s : Fraction) → (q ⊕ r) ⊕ s ≡ q ⊕ (r ⊕ s)
+⊕-assoc q r s = ap₂ _//_ (omega arith) (omega arith)
+
+pub ⊕-zero : (q : Fraction) → 0 // 1 ⊕ q ≡ q
+⊕-zero q = ap₂ _//_ (omega arith) (omega arith)
+
+pub ⊕-≈ : {q r s t : Fraction} → q ≈ s → r ≈ t → q ⊕ r ≈ s ⊕ t
+⊕-≈ {q} {r} {s} {t} h k = record {
+  cross = omega (arith, ap (λ x. x * (r .den * t .den)) (h .cross), ap (λ x. x * (q .den * s .den)) (k .cross));
+  left = mul-pos (h .left) (k .left);
+  right = mul-pos (h .right) (k .right);
+}
+
+pub ⊗-≈ : {q r s t : Fraction} → q ≈ s → r ≈ t → q ⊗ r ≈ s ⊗ t
+⊗-≈ {q} {r} {s} {t} h k = record {
+  cross = omega (arith, ap₂ _*_ (h .cross) (k .cross));
+  left = mul-pos (h .left) (k .left);
+  right = mul-pos (h .right) (k .right);
+}
+
+pub ⊗-distrib : (q r s : Fraction) → 0 < q .den → 0 < r .den → 0 < s .den → q ⊗ r ⊕ q ⊗ s ≈ q ⊗ (r ⊕ s)
+⊗-distrib q r s a b c = record { cross = omega arith; left = mul-pos (mul-pos a b) (mul-pos a c); right = mul-pos a (mul-pos b c) }
+
+-- over one denominator numerators are added
+pub ⊕-same : {q r : Fraction} {n m S : ℕ} → q ≈ n // S → r ≈ m // S → q ⊕ r ≈ (n + m) // S
+⊕-same {q} {r} h k = record {
+  cross = omega (arith, ap (λ t. t * r .den) (h .cross), ap (λ t. t * q .den) (k .cross));
+  left = mul-pos (h .left) (k .left);
+  right = h .right;
+}
+
+pub ⊕-≲ : {q r : Fraction} {n m S : ℕ} → q ≲ n // S → r ≲ m // S → q ⊕ r ≲ (n + m) // S
+⊕-≲ {q} {r} h k = record {
+  cross = omega (arith, mul-le-mul-right (r .den) (h .cross), mul-le-mul-right (q .den) (k .cross));
+  left = mul-pos (h .left) (k .left);
+  right = h .right;
+}
+
+-- o of N, and of that the part x of o * S
+pub ⊗-part : {q : Fraction} {x : ℕ} (o N S : ℕ) → 0 < N → q ≈ x // (o * S) → o // N ⊗ q ≈ x // (N * S)
+⊗-part o N S p h = record {
+  cross = omega (arith, ap (λ t. t * N) (h .cross));
+  left = mul-pos p (h .left);
+  right = mul-pos p (pos-left S o (omega (arith, h .right)));
+}
+
+-- ---- sums over a range
+
+pub sum-cut : (m n : ℕ) (f : ℕ → Fraction) → sum (m + n) f ≡ sum m f ⊕ sum n (λ i. f (m + i))
+sum-cut = over-cut _⊕_ (0 // 1) ⊕-assoc ⊕-zero
+
+pub sum-≈ : (n : ℕ) {f g : ℕ → Fraction} → ((i : ℕ) → i < n → f i ≈ g i) → sum n f ≈ sum n g
+sum-≈ n h = over-related _≈_ _⊕_ (0 // 1) _⊕_ (0 // 1) (≈-refl (omega arith)) (λ q s r t a b. ⊕-≈ a b) n h
+
+pub sum-const : (n : ℕ) (q : Fraction) → 0 < q .den → sum n (λ i. q) ≈ n // 1 ⊗ q
+unfolding over
+sum-const zero q p = record { cross = omega arith; left = omega arith; right = omega arith }
+sum-const (suc n) q p =
+    let r = sum-const n q p in
+    record { cross = omega (arith, ap (λ t. t * q .den) (r .cross)); left = mul-pos p (r .left); right = omega arith }
+
+-- a part of each is that part of the sum
+pub sum-part : (n : ℕ) (q : Fraction) (g : ℕ → Fraction) → 0 < q .den → ((i : ℕ) → i < n → 0 < g i .den) → sum n (λ i. q ⊗ g i) ≈ q ⊗ sum n g
+unfolding over
+sum-part zero q g p h = record { cross = omega arith; left = omega arith; right = omega arith }
+sum-part (suc n) q g p h =
+    let r = sum-part n q (λ i. g (suc i)) p (λ i l. h (suc i) (omega arith)) in let k = h 0 (omega arith) in
+    ≈-trans (⊕-≈ (≈-refl (mul-pos p k)) r) (⊗-distrib q (g 0) (sum n (λ i. g (suc i))) p k (pos-right (q .den) _ (r .right)))
+
+-- over one denominator
+pub sum-same : (n : ℕ) {f : ℕ → Fraction} {a : ℕ → ℕ} {S : ℕ} → 0 < S → ((i : ℕ) → i < n → f i ≈ a i // S) → sum n f ≈ Σ n a // S
+sum-same n {S = S} p h =
+    over-related (λ q m. q ≈ m // S) _⊕_ (0 // 1) _+_ 0 (record { cross = omega arith; left = omega arith; right = p }) (λ q r a b. ⊕-same) n h
+
+pub sum-≲ : (n : ℕ) {f : ℕ → Fraction} {a : ℕ → ℕ} {S : ℕ} → 0 < S → ((i : ℕ) → i < n → f i ≲ a i // S) → sum n f ≲ Σ n a // S
+sum-≲ n {S = S} p h =
+    over-related (λ q m. q ≲ m // S) _⊕_ (0 // 1) _+_ 0 (record { cross = omega arith; left = omega arith; right = p }) (λ q r a b. ⊕-≲) n h

@@ -1,0 +1,4 @@
+pub mod Sums
+pub mod Intervals
+pub mod Fractions
+pub mod Masses

@@ -1,0 +1,114 @@
+-- Laws of the mass of a plan. Each goes by induction over the plan: a draw's subplans share its mass evenly.
+use Prim.Native.Nat.{ℕ, zero, suc, _+_, _*_, _<_}
+use mathlib.Core.Path.{_≡_, refl, sym, ap, ap₂, _∙_, fun-ext}
+use mathlib.Core.Bool.{Bool, true, false, cond}
+use mathlib.Core.List.{List, [], _∷_, _++_, map}
+use native.Mathlib.Nat.{mul-pos, add-sub-cancel-left}
+use native.Mathlib.Omega.{arith}
+use lib.ListN.{length, getD}
+use Rattle.laws.specs.Sum.{over, Σ, total, indicator}
+use Rattle.laws.specs.Interval.{pick}
+use Rattle.laws.specs.Fraction.{Fraction, _//_, _⊕_, _⊗_, _≈_, _≲_, sum}
+use Rattle.laws.specs.Plan.{Plan, done, draw, after, Drawable, Path, drew, paths, weight, mass, mean, Weighed}
+use Rattle.laws.proofs.Sums.{over-related, over-ext, Σ-const}
+use Rattle.laws.proofs.Intervals.{pick-here, pick-beyond}
+use Rattle.laws.proofs.Fractions.{pos-left, pos-right, ≈-refl, ≈-sym, ≈-trans, ≈-≲, ⊕-assoc, ⊕-zero, ⊕-≈, ⊕-same, ⊗-≈, ⊗-distrib, sum-≈, sum-cut, sum-const, sum-part, sum-same, sum-≲}
+
+-- ---- the list of paths and the recursion
+
+weight-++ : {A : Type 0} (t : A → Bool) (xs ys : List (Path A)) → weight t (xs ++ ys) ≡ weight t xs ⊕ weight t ys
+unfolding weight
+weight-++ t [] ys = sym (⊕-zero (weight t ys))
+weight-++ t (x ∷ xs) ys =
+    ap (λ s. indicator (t (x .result)) // x .odds ⊕ s) (weight-++ t xs ys)
+    ∙ sym (⊕-assoc (indicator (t (x .result)) // x .odds) (weight t xs) (weight t ys))
+
+weight-over : {A : Type 0} (t : A → Bool) (n : ℕ) (f : ℕ → List (Path A)) → weight t (over _++_ [] n f) ≡ sum n (λ v. weight t (f v))
+unfolding weight
+weight-over t n f =
+    over-related (λ xs q. weight t xs ≡ q) _++_ [] _⊕_ (0 // 1) refl (λ a x b y p q. weight-++ t a x ∙ ap₂ _⊕_ p q) n (λ i l. refl)
+
+weight-drew : {A : Type 0} (t : A → Bool) (b v : ℕ) (ps : List (Path A)) → 0 < b → 0 < weight t ps .den
+    → weight t (map (drew b v) ps) ≈ 1 // b ⊗ weight t ps
+unfolding weight
+weight-drew t b v [] l h = record { cross = omega arith; left = omega arith; right = omega arith }
+weight-drew t b v (p ∷ ps) l h =
+    let o = pos-left (p .odds) _ h in let w = pos-right (p .odds) _ h in
+    ≈-trans (⊕-≈ {s = 1 // b ⊗ indicator (t (p .result)) // p .odds} (record { cross = omega arith; left = mul-pos l o; right = mul-pos l o }) (weight-drew t b v ps l w))
+    (⊗-distrib (1 // b) (indicator (t (p .result)) // p .odds) (weight t ps) l o w)
+
+agree : {A : Type 0} (t : A → Bool) (p : Plan A) → Drawable p → weight t (paths p) ≈ mass t p
+unfolding weight paths mass Drawable
+agree t (done a) d = record { cross = omega arith; left = omega arith; right = omega arith }
+agree t (draw b k) d =
+    let r : (v : ℕ) → v < b → weight t (paths (k v)) ≈ mass t (k v) = λ v l. agree t (k v) (d .1 v l) in
+    rw (weight-over t b (λ v. map (drew b v) (paths (k v))))
+    (≈-trans (sum-≈ b (λ v l. ≈-trans (weight-drew t b v (paths (k v)) (d .0) (r v l .left)) (⊗-≈ (≈-refl {q = 1 // b} (d .0)) (r v l))))
+    (sum-part b (1 // b) (λ v. mass t (k v)) (d .0) (λ v l. r v l .right)))
+
+-- ---- all of it, and a part of it
+
+even : (b : ℕ) {f : ℕ → Fraction} {a : ℕ → ℕ} {S : ℕ} → 0 < b → 0 < S → ((i : ℕ) → i < b → f i ≈ a i // S) → 1 // b ⊗ sum b f ≈ Σ b a // (b * S)
+even b p q h =
+    let k = sum-same b q h in
+    record { cross = omega (arith, ap (λ t. t * b) (k .cross)); left = mul-pos p (k .left); right = mul-pos p q }
+
+pub mass-whole : {A : Type 0} (p : Plan A) → Drawable p → mass (λ _. true) p ≈ 1 // 1
+unfolding mass Drawable
+mass-whole (done a) d = ≈-refl (omega arith)
+mass-whole (draw b k) d =
+    ≈-trans (rw (Σ-const b 1) at (even b {a = λ v. 1} {S = 1} (d .0) (omega arith) (λ v l. mass-whole (k v) (d .1 v l))))
+    (record { cross = omega arith; left = omega (arith, d .0); right = omega arith })
+
+indicator-le : {A : Type 0} (t : A → Bool) (a : A) → indicator (t a) // 1 ≲ 1 // 1
+indicator-le t a = go (t a)
+  where
+    go : (b : Bool) → indicator b // 1 ≲ 1 // 1
+    go true = record { cross = omega arith; left = omega arith; right = omega arith }
+    go false = record { cross = omega arith; left = omega arith; right = omega arith }
+
+pub mass-part : {A : Type 0} (t : A → Bool) (p : Plan A) → Drawable p → mass t p ≲ 1 // 1
+unfolding mass Drawable
+mass-part t (done a) d = indicator-le t a
+mass-part t (draw b k) d =
+    let r = rw (Σ-const b 1) at (sum-≲ b {a = λ v. 1} {S = 1} (omega arith) (λ v l. mass-part t (k v) (d .1 v l))) in
+    record { cross = omega (arith, r .cross); left = mul-pos (d .0) (r .left); right = omega arith }
+
+pub weighed : {A : Type 0} (t : A → Bool) (p : Plan A) → Drawable p → Weighed t p
+weighed t p d = record {
+  agree = agree t p d;
+  whole = ≈-trans (agree (λ _. true) p d) (mass-whole p d);
+  part = ≈-≲ (agree t p d) (mass-part t p d);
+}
+
+-- ---- one plan after another
+
+pub mass-after : {A B : Type 0} (t : B → Bool) (p : Plan A) (k : A → Plan B) → mass t (after p k) ≡ mean (λ a. mass t (k a)) p
+unfolding after mean mass
+mass-after t (done a) k = refl
+mass-after t (draw b f) k = ap (λ g. 1 // b ⊗ sum b g) (fun-ext (λ v. mass-after t (f v) k))
+
+pub mass-mean : {A : Type 0} (t : A → Bool) (p : Plan A) → mass t p ≡ mean (λ a. indicator (t a) // 1) p
+unfolding mean mass
+mass-mean t (done a) = refl
+mass-mean t (draw b f) = ap (λ g. 1 // b ⊗ sum b g) (fun-ext (λ v. mass-mean t (f v)))
+
+-- ---- a draw whose value only picks an interval: each index has its weight's part
+
+sum-pick : (ws : List ℕ) (f : ℕ → Fraction) → ((i : ℕ) → i < length ws → 0 < f i .den)
+    → sum (total ws) (λ q. f (pick ws q)) ≈ sum (length ws) (λ i. getD ws i 0 // 1 ⊗ f i)
+unfolding over total
+sum-pick [] f h = ≈-refl (omega arith)
+sum-pick (w ∷ ws) f h =
+    rw (sum-cut w (total ws) (λ q. f (pick (w ∷ ws) q))
+    ∙ ap₂ _⊕_ (over-ext _ _ w {g = λ q. f 0} (λ q l. ap f (pick-here w ws q l)))
+    (over-ext _ _ (total ws) {g = λ q. f (suc (pick ws q))} (λ q l. rw (pick-beyond w ws (w + q) (omega arith), add-sub-cancel-left))))
+    (⊕-≈ (sum-const w (f 0) (h 0 (omega arith))) (sum-pick ws (λ i. f (suc i)) (λ i l. h (suc i) (omega arith))))
+
+pub mass-pick : {A : Type 0} (t : A → Bool) (ws : List ℕ) (k : ℕ → Plan A) → 0 < total ws → ((i : ℕ) → i < length ws → 0 < mass t (k i) .den)
+    → mass t (draw (total ws) (λ q. k (pick ws q))) ≈ sum (length ws) (λ i. getD ws i 0 // total ws ⊗ mass t (k i))
+unfolding mass
+mass-pick t ws k p h =
+    ≈-trans (⊗-≈ (≈-refl {q = 1 // total ws} p) (sum-pick ws (λ i. mass t (k i)) h))
+    (≈-trans (≈-sym (sum-part (length ws) (1 // total ws) (λ i. getD ws i 0 // 1 ⊗ mass t (k i)) p (λ i l. omega (arith, h i l))))
+    (sum-≈ (length ws) (λ i l. record { cross = omega arith; left = mul-pos p (omega (arith, h i l)); right = mul-pos p (h i l) })))

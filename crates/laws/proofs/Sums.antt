@@ -1,0 +1,111 @@
+-- Laws of sums and of counting. Each goes by induction along the range or the list.
+use Prim.Native.Nat.{ℕ, zero, suc, _+_, _*_, _≤_, _<_}
+use mathlib.Core.Path.{_≡_, refl, sym, ap, ap₂, _∙_}
+use mathlib.Core.Bool.{Bool, true, false, cond}
+use mathlib.Core.List.{List, [], _∷_, _++_, map}
+use native.Mathlib.Nat.{add-assoc, suc-add, zero-add, mul-one, mul-zero, one-mul, zero-mul, suc-mul}
+use native.Mathlib.Omega.{arith}
+use lib.ListN.{length, getD}
+use lib.Dec.{ltb, eqb, eqb·suc-zero, eqb·zero-suc, eqb·suc-suc}
+use borrow.Author.Tests.{lt-ltb, le-ltb}
+use Rattle.laws.specs.Sum.{over, Σ, total, totalBy, indicator, count}
+
+-- ---- over a range
+
+-- what relates the terms relates the sums, if it relates the units and goes along with both operations
+pub over-related : {A B : Type 0} (R : A → B → Type 0) (_∘_ : A → A → A) (e : A) (_•_ : B → B → B) (e′ : B) → R e e′
+    → ((a x : A) (b y : B) → R a b → R x y → R (_∘_ a x) (_•_ b y))
+    → (n : ℕ) {f : ℕ → A} {g : ℕ → B} → ((i : ℕ) → i < n → R (f i) (g i)) → R (over _∘_ e n f) (over _•_ e′ n g)
+unfolding over
+over-related R _∘_ e _•_ e′ u c zero h = u
+over-related R _∘_ e _•_ e′ u c (suc n) h = c _ _ _ _ (h 0 (omega arith)) (over-related R _∘_ e _•_ e′ u c n (λ i l. h (suc i) (omega arith)))
+
+pub over-ext : {A : Type 0} (_∘_ : A → A → A) (e : A) (n : ℕ) {f g : ℕ → A} → ((i : ℕ) → i < n → f i ≡ g i) → over _∘_ e n f ≡ over _∘_ e n g
+over-ext _∘_ e n h = over-related _≡_ _∘_ e _∘_ e refl (λ a x b y p q. ap₂ _∘_ p q) n h
+
+pub over-cut : {A : Type 0} (_∘_ : A → A → A) (e : A) → ((a b c : A) → _∘_ (_∘_ a b) c ≡ _∘_ a (_∘_ b c)) → ((a : A) → _∘_ e a ≡ a)
+    → (m n : ℕ) (f : ℕ → A) → over _∘_ e (m + n) f ≡ _∘_ (over _∘_ e m f) (over _∘_ e n (λ i. f (m + i)))
+unfolding over
+over-cut _∘_ e assoc unit zero n f = simp zero-add (sym (unit _))
+over-cut _∘_ e assoc unit (suc m) n f = simp suc-add (ap (_∘_ (f 0)) (over-cut _∘_ e assoc unit m n (λ i. f (suc i))) ∙ sym (assoc _ _ _))
+
+pub Σ-add : (n : ℕ) (f g : ℕ → ℕ) → Σ n (λ i. f i + g i) ≡ Σ n f + Σ n g
+unfolding over
+Σ-add zero f g = refl
+Σ-add (suc n) f g = omega (arith, Σ-add n (λ i. f (suc i)) (λ i. g (suc i)))
+
+pub Σ-mul : (n : ℕ) (f : ℕ → ℕ) (c : ℕ) → Σ n (λ i. f i * c) ≡ Σ n f * c
+unfolding over
+Σ-mul zero f c = omega arith
+Σ-mul (suc n) f c = omega (arith, Σ-mul n (λ i. f (suc i)) c)
+
+pub Σ-const : (n c : ℕ) → Σ n (λ i. c) ≡ n * c
+unfolding over
+Σ-const zero c = omega arith
+Σ-const (suc n) c = omega (arith, Σ-const n c)
+
+pub Σ-cut : (m n : ℕ) (f : ℕ → ℕ) → Σ (m + n) f ≡ Σ m f + Σ n (λ i. f (m + i))
+Σ-cut = over-cut _+_ 0 add-assoc zero-add
+
+-- x for the first m numbers, y for the n others
+pub Σ-step : (m n x y : ℕ) → Σ (m + n) (λ i. cond (ltb i m) x y) ≡ m * x + n * y
+Σ-step m n x y =
+    Σ-cut m n (λ i. cond (ltb i m) x y) ∙ ap₂ _+_ (over-ext _ _ m (λ i l. rw (lt-ltb i m l)) ∙ Σ-const m x) (over-ext _ _ n (λ i l. rw (le-ltb (m + i) m (omega arith))) ∙ Σ-const n y)
+
+-- one of the terms alone
+pub Σ-one : (n j : ℕ) (f : ℕ → ℕ) → j < n → Σ n (λ i. f i * indicator (eqb i j)) ≡ f j
+unfolding over
+Σ-one zero j f h = omega arith
+Σ-one (suc n) zero f h = ap₂ _+_ (mul-one (f 0)) (over-ext _ _ n (λ i l. simp (eqb·suc-zero, mul-zero)) ∙ Σ-const n 0) ∙ omega arith
+Σ-one (suc n) (suc j) f h =
+    ap₂ _+_ (simp (eqb·zero-suc, mul-zero)) (over-ext _ _ n (λ i l. simp eqb·suc-suc) ∙ Σ-one n j (λ i. f (suc i)) (omega arith)) ∙ zero-add _
+
+-- of the numbers below n one is j
+pub count-one : (n j : ℕ) → j < n → count n (λ i. eqb i j) ≡ 1
+count-one n j h = over-ext _ _ n (λ i l. omega arith) ∙ Σ-one n j (λ i. 1) h
+
+-- k periods of b numbers each
+pub Σ-periodic : (b k : ℕ) (f g : ℕ → ℕ) → ((q i : ℕ) → i < b → f (q * b + i) ≡ g i) → Σ (k * b) f ≡ k * Σ b g
+unfolding over
+Σ-periodic b zero f g h = simp zero-mul
+Σ-periodic b (suc k) f g h = rw (suc-mul, Σ-cut (k * b) b f) (omega (arith, Σ-periodic b k f g h, over-ext _+_ 0 b (λ i l. h k i l)))
+
+pub Σ-mono : (n : ℕ) {f g : ℕ → ℕ} → ((i : ℕ) → i < n → f i ≤ g i) → Σ n f ≤ Σ n g
+Σ-mono n h = over-related _≤_ _+_ 0 _+_ 0 (omega arith) (λ a x b y p q. omega arith) n h
+
+-- ---- over a list
+
+pub total-++ : (xs ys : List ℕ) → total (xs ++ ys) ≡ total xs + total ys
+unfolding total
+total-++ [] ys = omega arith
+total-++ (x ∷ xs) ys = omega (arith, total-++ xs ys)
+
+-- a list's sum as a sum over its indices
+pub Σ-map : {A : Type 0} (f : A → ℕ) (d : A) (xs : List A) → Σ (length xs) (λ i. f (getD xs i d)) ≡ total (map f xs)
+unfolding over total
+Σ-map f d [] = refl
+Σ-map f d (x ∷ xs) = ap (λ t. f x + t) (Σ-map f d xs)
+
+-- an element's part of the sum
+pub map-le : {A : Type 0} (f : A → ℕ) (d : A) (xs : List A) (i : ℕ) → i < length xs → f (getD xs i d) ≤ total (map f xs)
+unfolding total
+map-le f d [] i h = omega arith
+map-le f d (x ∷ xs) zero h = omega arith
+map-le f d (x ∷ xs) (suc i) h = omega (arith, map-le f d xs i (omega arith))
+
+-- ---- by a key
+
+cond-one : (n k x : ℕ) → k < n → Σ n (λ j. cond (eqb k j) x 0) ≡ x
+unfolding over
+cond-one zero k x h = omega arith
+cond-one (suc n) zero x h = ap (λ t. x + t) (over-ext _ _ n (λ i l. rw (eqb·zero-suc i)) ∙ Σ-const n 0) ∙ omega arith
+cond-one (suc n) (suc k) x h = ap₂ _+_ (rw (eqb·suc-zero k)) (over-ext _ _ n (λ i l. rw (eqb·suc-suc k i)) ∙ cond-one n k x (omega arith)) ∙ zero-add x
+
+-- every key below n: the sums by key make up the whole
+pub Σ-totalBy : {A : Type 0} (key value : A → ℕ) (d : A) (n : ℕ) (xs : List A) → ((i : ℕ) → i < length xs → key (getD xs i d) < n)
+    → Σ n (λ k. totalBy key value k xs) ≡ total (map value xs)
+unfolding total totalBy
+Σ-totalBy key value d n [] h = Σ-const n 0 ∙ omega arith
+Σ-totalBy key value d n (x ∷ xs) h =
+    Σ-add n (λ k. cond (eqb (key x) k) (value x) 0) (λ k. totalBy key value k xs)
+    ∙ ap₂ _+_ (cond-one n (key x) (value x) (h 0 (omega arith))) (Σ-totalBy key value d n xs (λ i l. h (suc i) (omega arith)))

@@ -1,0 +1,4 @@
+pub mod Sum
+pub mod Interval
+pub mod Fraction
+pub mod Plan

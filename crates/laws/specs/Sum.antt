@@ -1,0 +1,33 @@
+-- Sums over a range, over a list and by a key, and counting as a sum.
+use Prim.Native.Nat.{ℕ, zero, suc, _+_}
+use mathlib.Core.Bool.{Bool, true, false, cond}
+use mathlib.Core.List.{List, [], _∷_}
+use lib.Dec.{eqb}
+
+-- f 0 ∘ (f 1 ∘ .. (f (n - 1) ∘ e)), for any operation
+unfoldable pub over : {A : Type 0} → (A → A → A) → A → ℕ → (ℕ → A) → A
+over _∘_ e zero f = e
+over _∘_ e (suc n) f = _∘_ (f 0) (over _∘_ e n (λ i. f (suc i)))
+
+-- f 0 + f 1 + .. + f (n - 1)
+abbrev pub Σ : ℕ → (ℕ → ℕ) → ℕ
+Σ n f = over _+_ 0 n f
+
+-- the sum of a list
+unfoldable pub total : List ℕ → ℕ
+total [] = 0
+total (n ∷ ns) = n + total ns
+
+-- the sum of `value` over the elements of a list whose key is k
+unfoldable pub totalBy : {A : Type 0} → (A → ℕ) → (A → ℕ) → ℕ → List A → ℕ
+totalBy key value k [] = 0
+totalBy key value k (x ∷ xs) = cond (eqb (key x) k) (value x) 0 + totalBy key value k xs
+
+-- 1 where a test passes, 0 where it does not
+abbrev pub indicator : Bool → ℕ
+indicator true = 1
+indicator false = 0
+
+-- how many numbers below n pass a test
+abbrev pub count : ℕ → (ℕ → Bool) → ℕ
+count n p = Σ n (λ i. indicator (p i))

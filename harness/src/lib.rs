@@ -1,0 +1,5 @@
+//! Compares the archive of proved functions with an independent reference.
+
+pub mod archive;
+pub mod reference;
+pub mod seeded;
