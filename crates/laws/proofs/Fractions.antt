@@ -1,10 +1,11 @@
 -- Laws of fractions. A sum is compared over one common denominator, `q ≈ n // S`, so that what is left is an equation of numerators.
 use Prim.Native.Nat.{ℕ, zero, suc, _+_, _*_, _<_}
 use mathlib.Core.Path.{_≡_, refl, sym, ap, ap₂, _∙_}
-use native.Mathlib.Nat.{mul-pos, zero-lt-suc, eq-of-mul-eq-mul-right, mul-le-mul-right, le-of-mul-le-mul-right}
+use native.Mathlib.Nat.{mul-pos, mul-zero, zero-lt-suc, eq-of-mul-eq-mul-right, mul-le-mul-right, le-of-mul-le-mul-right}
 use native.Mathlib.Omega.{arith}
-use Rattle.laws.specs.Sum.{over, Σ}
-use Rattle.laws.proofs.Sums.{over-related, over-cut}
+use lib.Dec.{eqb, eqb·suc-zero, eqb·zero-suc, eqb·suc-suc}
+use Rattle.laws.specs.Sum.{over, Σ, indicator}
+use Rattle.laws.proofs.Sums.{over-related, over-ext, over-cut, over-add, over-swap, Σ-const}
 use Rattle.laws.specs.Fraction.{Fraction, _//_, _⊕_, _⊗_, _≈_, _≲_, sum}
 
 pub pos-left : (a b : ℕ) → 0 < a * b → 0 < a
@@ -37,6 +38,10 @@ pub ≈-≲ : {q r s : Fraction} → q ≈ r → r ≲ s → q ≲ s
   right = k .right;
 }
 
+-- the numerator by an equation
+pub ≈-num : {q : Fraction} {n m S : ℕ} → n ≡ m → q ≈ n // S → q ≈ m // S
+≈-num e h = rw e at h
+
 -- a common factor c goes out
 pub cancel : {q : Fraction} {n S : ℕ} (c : ℕ) → q ≈ (n * c) // (S * c) → q ≈ n // S
 cancel {q} {n} {S} c h = record {
@@ -54,6 +59,15 @@ pub ⊕-assoc : (q r s : Fraction) → (q ⊕ r) ⊕ s ≡ q ⊕ (r ⊕ s)
 pub ⊕-zero : (q : Fraction) → 0 // 1 ⊕ q ≡ q
 ⊕-zero q = ap₂ _//_ (omega arith) (omega arith)
 
+⊕-comm : (q r : Fraction) → q ⊕ r ≡ r ⊕ q
+⊕-comm q r = ap₂ _//_ (omega arith) (omega arith)
+
+pub ⊗-assoc : (q r s : Fraction) → (q ⊗ r) ⊗ s ≡ q ⊗ (r ⊗ s)
+⊗-assoc q r s = ap₂ _//_ (omega arith) (omega arith)
+
+pub ⊗-comm : (q r : Fraction) → q ⊗ r ≡ r ⊗ q
+⊗-comm q r = ap₂ _//_ (omega arith) (omega arith)
+
 pub ⊕-≈ : {q r s t : Fraction} → q ≈ s → r ≈ t → q ⊕ r ≈ s ⊕ t
 ⊕-≈ {q} {r} {s} {t} h k = record {
   cross = omega (arith, ap (λ x. x * (r .den * t .den)) (h .cross), ap (λ x. x * (q .den * s .den)) (k .cross));
@@ -70,6 +84,12 @@ pub ⊗-≈ : {q r s t : Fraction} → q ≈ s → r ≈ t → q ⊗ r ≈ s ⊗
 
 pub ⊗-distrib : (q r s : Fraction) → 0 < q .den → 0 < r .den → 0 < s .den → q ⊗ r ⊕ q ⊗ s ≈ q ⊗ (r ⊕ s)
 ⊗-distrib q r s a b c = record { cross = omega arith; left = mul-pos (mul-pos a b) (mul-pos a c); right = mul-pos a (mul-pos b c) }
+
+pub ⊗-distrib-right : (q r s : Fraction) → 0 < q .den → 0 < r .den → 0 < s .den → q ⊗ s ⊕ r ⊗ s ≈ (q ⊕ r) ⊗ s
+⊗-distrib-right q r s a b c = record { cross = omega arith; left = mul-pos (mul-pos a c) (mul-pos b c); right = mul-pos (mul-pos a b) c }
+
+pub ⊗-zero : (q : Fraction) → 0 < q .den → 0 // 1 ⊗ q ≈ 0 // 1
+⊗-zero q p = record { cross = omega arith; left = omega arith; right = omega arith }
 
 -- over one denominator numerators are added
 pub ⊕-same : {q r : Fraction} {n m S : ℕ} → q ≈ n // S → r ≈ m // S → q ⊕ r ≈ (n + m) // S
@@ -102,6 +122,15 @@ sum-cut = over-cut _⊕_ (0 // 1) ⊕-assoc ⊕-zero
 pub sum-≈ : (n : ℕ) {f g : ℕ → Fraction} → ((i : ℕ) → i < n → f i ≈ g i) → sum n f ≈ sum n g
 sum-≈ n h = over-related _≈_ _⊕_ (0 // 1) _⊕_ (0 // 1) (≈-refl (omega arith)) (λ q s r t a b. ⊕-≈ a b) n h
 
+pub sum-den : (n : ℕ) (f : ℕ → Fraction) → ((i : ℕ) → i < n → 0 < f i .den) → 0 < sum n f .den
+sum-den n f h = sum-≈ n {g = f} (λ i l. ≈-refl (h i l)) .left
+
+pub sum-add : (n : ℕ) (f g : ℕ → Fraction) → sum n (λ i. f i ⊕ g i) ≡ sum n f ⊕ sum n g
+sum-add = over-add _⊕_ (0 // 1) ⊕-assoc ⊕-comm ⊕-zero
+
+pub sum-swap : (n m : ℕ) (f : ℕ → ℕ → Fraction) → sum n (λ i. sum m (f i)) ≡ sum m (λ j. sum n (λ i. f i j))
+sum-swap = over-swap _⊕_ (0 // 1) ⊕-assoc ⊕-comm ⊕-zero
+
 pub sum-const : (n : ℕ) (q : Fraction) → 0 < q .den → sum n (λ i. q) ≈ n // 1 ⊗ q
 unfolding over
 sum-const zero q p = record { cross = omega arith; left = omega arith; right = omega arith }
@@ -125,3 +154,34 @@ sum-same n {S = S} p h =
 pub sum-≲ : (n : ℕ) {f : ℕ → Fraction} {a : ℕ → ℕ} {S : ℕ} → 0 < S → ((i : ℕ) → i < n → f i ≲ a i // S) → sum n f ≲ Σ n a // S
 sum-≲ n {S = S} p h =
     over-related (λ q m. q ≲ m // S) _⊕_ (0 // 1) _+_ 0 (record { cross = omega arith; left = omega arith; right = p }) (λ q r a b. ⊕-≲) n h
+
+pub sum-zero : (n : ℕ) (g : ℕ → Fraction) → ((i : ℕ) → i < n → 0 < g i .den) → sum n (λ i. 0 // 1 ⊗ g i) ≈ 0 // 1
+sum-zero n g x = rw (Σ-const n 0, mul-zero) at (sum-same n {a = λ i. 0} {S = 1} (omega arith) (λ i l. ⊗-zero (g i) (x i l)))
+
+-- the same on the right
+pub sum-right : (n : ℕ) (q : Fraction) (g : ℕ → Fraction) → 0 < q .den → ((i : ℕ) → i < n → 0 < g i .den) → sum n (λ i. g i ⊗ q) ≈ sum n g ⊗ q
+sum-right n q g p h = rw (over-ext _⊕_ (0 // 1) n {g = λ i. q ⊗ g i} (λ i l. ⊗-comm (g i) q), ⊗-comm (sum n g) q) (sum-part n q g p h)
+
+-- a mixture of mixtures: sums of sums, each weighted, sorted by the inner index
+pub sum-mix : (n m : ℕ) (w : ℕ → Fraction) (a : ℕ → ℕ → Fraction) (g : ℕ → Fraction) → ((h : ℕ) → h < n → 0 < w h .den)
+    → ((h : ℕ) → h < n → (i : ℕ) → i < m → 0 < a h i .den) → ((i : ℕ) → i < m → 0 < g i .den)
+    → sum n (λ h. w h ⊗ sum m (λ i. a h i ⊗ g i)) ≈ sum m (λ i. sum n (λ h. w h ⊗ a h i) ⊗ g i)
+sum-mix n m w a g u v x =
+    ≈-trans (sum-≈ n (λ h l. ≈-sym (sum-part m (w h) (λ i. a h i ⊗ g i) (u h l) (λ i k. mul-pos (v h l i k) (x i k)))))
+    (rw (sum-swap n m (λ h i. w h ⊗ (a h i ⊗ g i)))
+    (sum-≈ m (λ i k.
+    rw (over-ext _⊕_ (0 // 1) n {g = λ h. (w h ⊗ a h i) ⊗ g i} (λ h l. sym (⊗-assoc (w h) (a h i) (g i))))
+    (sum-right n (g i) (λ h. w h ⊗ a h i) (x i k) (λ h l. mul-pos (u h l) (v h l i k))))))
+
+-- one of the terms alone
+pub sum-one : (m c : ℕ) (g : ℕ → Fraction) → c < m → ((i : ℕ) → i < m → 0 < g i .den) → sum m (λ i. indicator (eqb c i) // 1 ⊗ g i) ≈ g c
+unfolding over
+sum-one zero c g l x = absurd (omega arith)
+sum-one (suc m) zero g l x =
+    ≈-trans (⊕-≈ {t = 0 // 1} (≈-refl (omega (arith, x 0 (omega arith)))) (rw (over-ext _⊕_ (0 // 1) m {g = λ i. 0 // 1 ⊗ g (suc i)} (λ i k. ap (λ t. indicator t // 1 ⊗ g (suc i)) (eqb·zero-suc i))) (sum-zero m (λ i. g (suc i)) (λ i k. x (suc i) (omega arith)))))
+    (record { cross = omega arith; left = omega (arith, x 0 (omega arith)); right = x 0 (omega arith) })
+sum-one (suc m) (suc c) g l x =
+    let r = sum-one m c (λ i. g (suc i)) (omega arith) (λ i k. x (suc i) (omega arith)) in
+    let z : 0 // 1 ⊗ g 0 ≈ 0 // 1 = ⊗-zero (g 0) (x 0 (omega arith)) in
+    rw (eqb·suc-zero c, over-ext _⊕_ (0 // 1) m {g = λ i. indicator (eqb c i) // 1 ⊗ g (suc i)} (λ i k. ap (λ t. indicator t // 1 ⊗ g (suc i)) (eqb·suc-suc c i)))
+    (≈-trans (⊕-≈ z r) (rw (⊕-zero (g (suc c))) (≈-refl (r .right))))

@@ -3,16 +3,17 @@ use Prim.Native.Nat.{ℕ, zero, suc, _+_, _*_, _<_}
 use mathlib.Core.Path.{_≡_, refl, sym, ap, ap₂, _∙_, fun-ext}
 use mathlib.Core.Bool.{Bool, true, false, cond}
 use mathlib.Core.List.{List, [], _∷_, _++_, map}
-use native.Mathlib.Nat.{mul-pos, add-sub-cancel-left}
+use native.Mathlib.Nat.{mul-pos, mul-one, add-sub-cancel-left}
 use native.Mathlib.Omega.{arith}
 use lib.ListN.{length, getD}
+use lib.Dec.{eqb}
 use Rattle.laws.specs.Sum.{over, Σ, total, indicator}
-use Rattle.laws.specs.Interval.{pick}
+use Rattle.laws.specs.Interval.{pick, Intervals}
 use Rattle.laws.specs.Fraction.{Fraction, _//_, _⊕_, _⊗_, _≈_, _≲_, sum}
-use Rattle.laws.specs.Plan.{Plan, done, draw, after, Drawable, Path, drew, paths, weight, mass, mean, Weighed}
+use Rattle.laws.specs.Plan.{Plan, done, draw, after, Every, Drawable, Path, drew, paths, weight, mass, mean, Weighed}
 use Rattle.laws.proofs.Sums.{over-related, over-ext, Σ-const}
-use Rattle.laws.proofs.Intervals.{pick-here, pick-beyond}
-use Rattle.laws.proofs.Fractions.{pos-left, pos-right, ≈-refl, ≈-sym, ≈-trans, ≈-≲, ⊕-assoc, ⊕-zero, ⊕-≈, ⊕-same, ⊗-≈, ⊗-distrib, sum-≈, sum-cut, sum-const, sum-part, sum-same, sum-≲}
+use Rattle.laws.proofs.Intervals.{pick-here, pick-beyond, intervals}
+use Rattle.laws.proofs.Fractions.{pos-left, pos-right, ≈-refl, ≈-sym, ≈-trans, ≈-≲, ⊕-assoc, ⊕-zero, ⊕-≈, ⊕-same, ⊗-≈, ⊗-distrib, sum-≈, sum-cut, sum-const, sum-part, sum-same, sum-≲, sum-mix, sum-one}
 
 -- ---- the list of paths and the recursion
 
@@ -38,7 +39,7 @@ weight-drew t b v (p ∷ ps) l h =
     (⊗-distrib (1 // b) (indicator (t (p .result)) // p .odds) (weight t ps) l o w)
 
 agree : {A : Type 0} (t : A → Bool) (p : Plan A) → Drawable p → weight t (paths p) ≈ mass t p
-unfolding weight paths mass Drawable
+unfolding weight paths mass Every
 agree t (done a) d = record { cross = omega arith; left = omega arith; right = omega arith }
 agree t (draw b k) d =
     let r : (v : ℕ) → v < b → weight t (paths (k v)) ≈ mass t (k v) = λ v l. agree t (k v) (d .1 v l) in
@@ -48,16 +49,17 @@ agree t (draw b k) d =
 
 -- ---- all of it, and a part of it
 
-even : (b : ℕ) {f : ℕ → Fraction} {a : ℕ → ℕ} {S : ℕ} → 0 < b → 0 < S → ((i : ℕ) → i < b → f i ≈ a i // S) → 1 // b ⊗ sum b f ≈ Σ b a // (b * S)
-even b p q h =
+-- b values of equal weight
+pub mass-even : (b : ℕ) {f : ℕ → Fraction} {a : ℕ → ℕ} {S : ℕ} → 0 < b → 0 < S → ((i : ℕ) → i < b → f i ≈ a i // S) → 1 // b ⊗ sum b f ≈ Σ b a // (b * S)
+mass-even b p q h =
     let k = sum-same b q h in
     record { cross = omega (arith, ap (λ t. t * b) (k .cross)); left = mul-pos p (k .left); right = mul-pos p q }
 
 pub mass-whole : {A : Type 0} (p : Plan A) → Drawable p → mass (λ _. true) p ≈ 1 // 1
-unfolding mass Drawable
+unfolding mass Every
 mass-whole (done a) d = ≈-refl (omega arith)
 mass-whole (draw b k) d =
-    ≈-trans (rw (Σ-const b 1) at (even b {a = λ v. 1} {S = 1} (d .0) (omega arith) (λ v l. mass-whole (k v) (d .1 v l))))
+    ≈-trans (rw (Σ-const b 1) at (mass-even b {a = λ v. 1} {S = 1} (d .0) (omega arith) (λ v l. mass-whole (k v) (d .1 v l))))
     (record { cross = omega arith; left = omega (arith, d .0); right = omega arith })
 
 indicator-le : {A : Type 0} (t : A → Bool) (a : A) → indicator (t a) // 1 ≲ 1 // 1
@@ -68,7 +70,7 @@ indicator-le t a = go (t a)
     go false = record { cross = omega arith; left = omega arith; right = omega arith }
 
 pub mass-part : {A : Type 0} (t : A → Bool) (p : Plan A) → Drawable p → mass t p ≲ 1 // 1
-unfolding mass Drawable
+unfolding mass Every
 mass-part t (done a) d = indicator-le t a
 mass-part t (draw b k) d =
     let r = rw (Σ-const b 1) at (sum-≲ b {a = λ v. 1} {S = 1} (omega arith) (λ v l. mass-part t (k v) (d .1 v l))) in
@@ -88,10 +90,39 @@ unfolding after mean mass
 mass-after t (done a) k = refl
 mass-after t (draw b f) k = ap (λ g. 1 // b ⊗ sum b g) (fun-ext (λ v. mass-after t (f v) k))
 
+pub every-after : {A B : Type 0} (P : A → Type 0) (Q : B → Type 0) (p : Plan A) (k : A → Plan B) → Every P p → ((a : A) → P a → Every Q (k a)) → Every Q (after p k)
+unfolding Every after
+every-after P Q (done a) k d h = h a d
+every-after P Q (draw b f) k d h = (d .0, λ v l. every-after P Q (f v) k (d .1 v l) h)
+
 pub mass-mean : {A : Type 0} (t : A → Bool) (p : Plan A) → mass t p ≡ mean (λ a. indicator (t a) // 1) p
 unfolding mean mass
 mass-mean t (done a) = refl
 mass-mean t (draw b f) = ap (λ g. 1 // b ⊗ sum b g) (fun-ext (λ v. mass-mean t (f v)))
+
+-- ---- the mean by the classes of the results
+
+pub every-map : {A : Type 0} {P Q : A → Type 0} → ((a : A) → P a → Q a) → (p : Plan A) → Every P p → Every Q p
+unfolding Every
+every-map h (done a) d = h a d
+every-map h (draw b k) d = (d .0, λ v l. every-map h (k v) (d .1 v l))
+
+pub mass-den : {A : Type 0} (P : A → Type 0) (t : A → Bool) (p : Plan A) → Every P p → 0 < mass t p .den
+mass-den P t p d = mass-part t p (every-map {P = P} {Q = λ _. Unit {0}} (λ _ _. tt) p d) .left
+
+-- total probability: where f depends on the class of a result alone, its mean is the sum over the classes
+pub mean-classes : {A : Type 0} (class : A → ℕ) (f : A → Fraction) (g : ℕ → Fraction) (m : ℕ) (p : Plan A) → ((i : ℕ) → i < m → 0 < g i .den)
+    → Every (λ a. (class a < m) × (f a ≈ g (class a))) p → mean f p ≈ sum m (λ i. mass (λ a. eqb (class a) i) p ⊗ g i)
+unfolding Every mean mass
+mean-classes class f g m (done a) x d = ≈-trans (d .1) (≈-sym (sum-one m (class a) g (d .0) x))
+mean-classes class f g m (draw b k) x d =
+    let M : ℕ → ℕ → Fraction = λ v i. mass (λ a. eqb (class a) i) (k v) in
+    let u : (v : ℕ) → v < b → (i : ℕ) → i < m → 0 < M v i .den = λ v l i _. mass-den _ (λ a. eqb (class a) i) (k v) (d .1 v l) in
+    let r : (v : ℕ) → v < b → mean f (k v) ≈ sum m (λ i. M v i ⊗ g i) = λ v l. mean-classes class f g m (k v) x (d .1 v l) in
+    ≈-trans (⊗-≈ (≈-refl {q = 1 // b} (d .0)) (sum-≈ b r))
+    (≈-trans (≈-sym (sum-part b (1 // b) (λ v. sum m (λ i. M v i ⊗ g i)) (d .0) (λ v l. r v l .right)))
+    (≈-trans (sum-mix b m (λ v. 1 // b) M g (λ v l. d .0) u x)
+    (sum-≈ m (λ i l. ⊗-≈ (sum-part b (1 // b) (λ v. M v i) (d .0) (λ v k. u v k i l)) (≈-refl (x i l))))))
 
 -- ---- a draw whose value only picks an interval: each index has its weight's part
 
@@ -112,3 +143,11 @@ mass-pick t ws k p h =
     ≈-trans (⊗-≈ (≈-refl {q = 1 // total ws} p) (sum-pick ws (λ i. mass t (k i)) h))
     (≈-trans (≈-sym (sum-part (length ws) (1 // total ws) (λ i. getD ws i 0 // 1 ⊗ mass t (k i)) p (λ i l. omega (arith, h i l))))
     (sum-≈ (length ws) (λ i l. record { cross = omega arith; left = mul-pos p (omega (arith, h i l)); right = mul-pos p (h i l) })))
+
+-- where only index j passes the test, its interval's part
+pub mass-hits : {A : Type 0} (t : A → Bool) (ws : List ℕ) (k : ℕ → A) (j : ℕ) → j < length ws → 0 < total ws → ((i : ℕ) → t (k i) ≡ eqb i j)
+    → mass t (draw (total ws) (λ q. done (k (pick ws q)))) ≈ getD ws j 0 // total ws
+unfolding mass
+mass-hits t ws k j l p h =
+    rw (mul-one (total ws), over-ext _+_ 0 (total ws) (λ q _. ap indicator (h (pick ws q))), intervals ws .hits j l) at
+    (mass-even (total ws) {a = λ q. indicator (t (k (pick ws q)))} {S = 1} p (omega arith) (λ q _. ≈-refl (omega arith)))

@@ -3,7 +3,7 @@ use Prim.Native.Nat.{ℕ, zero, suc, _+_, _*_, _≤_, _<_}
 use mathlib.Core.Path.{_≡_, refl, sym, ap, ap₂, _∙_}
 use mathlib.Core.Bool.{Bool, true, false, cond}
 use mathlib.Core.List.{List, [], _∷_, _++_, map}
-use native.Mathlib.Nat.{add-assoc, suc-add, zero-add, mul-one, mul-zero, one-mul, zero-mul, suc-mul}
+use native.Mathlib.Nat.{add-assoc, add-comm, suc-add, zero-add, mul-one, mul-zero, one-mul, zero-mul, suc-mul}
 use native.Mathlib.Omega.{arith}
 use lib.ListN.{length, getD}
 use lib.Dec.{ltb, eqb, eqb·suc-zero, eqb·zero-suc, eqb·suc-suc}
@@ -29,10 +29,29 @@ unfolding over
 over-cut _∘_ e assoc unit zero n f = simp zero-add (sym (unit _))
 over-cut _∘_ e assoc unit (suc m) n f = simp suc-add (ap (_∘_ (f 0)) (over-cut _∘_ e assoc unit m n (λ i. f (suc i))) ∙ sym (assoc _ _ _))
 
+-- for an operation that is commutative too
+module _ {A : Type 0} (_∘_ : A → A → A) (e : A) (assoc : (a b c : A) → _∘_ (_∘_ a b) c ≡ _∘_ a (_∘_ b c)) (comm : (a b : A) → _∘_ a b ≡ _∘_ b a) (unit : (a : A) → _∘_ e a ≡ a) where
+  middle : (a b c d : A) → _∘_ (_∘_ a b) (_∘_ c d) ≡ _∘_ (_∘_ a c) (_∘_ b d)
+  middle a b c d = assoc a b (_∘_ c d) ∙ ap (_∘_ a) (sym (assoc b c d) ∙ ap (λ x. _∘_ x d) (comm b c) ∙ assoc c b d) ∙ sym (assoc a c (_∘_ b d))
+
+  pub over-add : (n : ℕ) (f g : ℕ → A) → over _∘_ e n (λ i. _∘_ (f i) (g i)) ≡ _∘_ (over _∘_ e n f) (over _∘_ e n g)
+  unfolding over
+  over-add zero f g = sym (unit e)
+  over-add (suc n) f g = ap (_∘_ (_∘_ (f 0) (g 0))) (over-add n (λ i. f (suc i)) (λ i. g (suc i))) ∙ middle _ _ _ _
+
+  over-units : (n : ℕ) → over _∘_ e n (λ i. e) ≡ e
+  unfolding over
+  over-units zero = refl
+  over-units (suc n) = unit _ ∙ over-units n
+
+  pub over-swap : (n m : ℕ) (f : ℕ → ℕ → A) → over _∘_ e n (λ i. over _∘_ e m (f i)) ≡ over _∘_ e m (λ j. over _∘_ e n (λ i. f i j))
+  unfolding over
+  over-swap zero m f = sym (over-units m)
+  over-swap (suc n) m f =
+      ap (_∘_ (over _∘_ e m (f 0))) (over-swap n m (λ i. f (suc i))) ∙ sym (over-add m (f 0) (λ j. over _∘_ e n (λ i. f (suc i) j)))
+
 pub Σ-add : (n : ℕ) (f g : ℕ → ℕ) → Σ n (λ i. f i + g i) ≡ Σ n f + Σ n g
-unfolding over
-Σ-add zero f g = refl
-Σ-add (suc n) f g = omega (arith, Σ-add n (λ i. f (suc i)) (λ i. g (suc i)))
+Σ-add = over-add _+_ 0 add-assoc add-comm zero-add
 
 pub Σ-mul : (n : ℕ) (f : ℕ → ℕ) (c : ℕ) → Σ n (λ i. f i * c) ≡ Σ n f * c
 unfolding over
@@ -73,12 +92,34 @@ unfolding over
 pub Σ-mono : (n : ℕ) {f g : ℕ → ℕ} → ((i : ℕ) → i < n → f i ≤ g i) → Σ n f ≤ Σ n g
 Σ-mono n h = over-related _≤_ _+_ 0 _+_ 0 (omega arith) (λ a x b y p q. omega arith) n h
 
+-- a term is at most the sum
+pub Σ-term : (n i : ℕ) (f : ℕ → ℕ) → i < n → f i ≤ Σ n f
+unfolding over
+Σ-term zero i f l = absurd (omega arith)
+Σ-term (suc n) zero f l = omega arith
+Σ-term (suc n) (suc i) f l = omega (arith, Σ-term n i (λ k. f (suc k)) (omega arith))
+
 -- ---- over a list
 
 pub total-++ : (xs ys : List ℕ) → total (xs ++ ys) ≡ total xs + total ys
 unfolding total
 total-++ [] ys = omega arith
 total-++ (x ∷ xs) ys = omega (arith, total-++ xs ys)
+
+pub total-map : {A B : Type 0} (f : A → B) (g : B → ℕ) (xs : List A) → total (map g (map f xs)) ≡ total (map (λ x. g (f x)) xs)
+unfolding total
+total-map f g [] = refl
+total-map f g (x ∷ xs) = ap (λ t. g (f x) + t) (total-map f g xs)
+
+pub total-mul : {A : Type 0} (f : A → ℕ) (c : ℕ) (xs : List A) → total (map (λ x. f x * c) xs) ≡ total (map f xs) * c
+unfolding total
+total-mul f c [] = omega arith
+total-mul f c (x ∷ xs) = omega (arith, total-mul f c xs)
+
+pub total-add : {A : Type 0} (f g : A → ℕ) (xs : List A) → total (map (λ x. f x + g x) xs) ≡ total (map f xs) + total (map g xs)
+unfolding total
+total-add f g [] = refl
+total-add f g (x ∷ xs) = omega (arith, total-add f g xs)
 
 -- a list's sum as a sum over its indices
 pub Σ-map : {A : Type 0} (f : A → ℕ) (d : A) (xs : List A) → Σ (length xs) (λ i. f (getD xs i d)) ≡ total (map f xs)

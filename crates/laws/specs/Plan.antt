@@ -1,5 +1,5 @@
 -- Plans: trees of draws, their paths, and the mass of the paths whose result passes a test.
-use Prim.Native.Nat.{ℕ, _*_, _<_}
+use Prim.Native.Nat.{ℕ, zero, suc, _*_, _<_}
 use mathlib.Core.Bool.{Bool, true}
 use mathlib.Core.List.{List, [], _∷_, _++_, map}
 use Rattle.laws.specs.Sum.{over, indicator}
@@ -15,10 +15,20 @@ unfoldable pub after : {A B : Type 0} → Plan A → (A → Plan B) → Plan B
 after (done a) k = k a
 after (draw b f) k = draw b (λ v. after (f v) k)
 
+-- every draw has a value, and every result is such
+unfoldable pub Every : {A : Type 0} → (A → Type 0) → Plan A → Type 0
+Every P (done a) = P a
+Every P (draw b k) = (0 < b) × ((v : ℕ) → v < b → Every P (k v))
+
 -- every draw has a value
-unfoldable pub Drawable : {A : Type 0} → Plan A → Type 0
-Drawable (done a) = Unit {0}
-Drawable (draw b k) = (0 < b) × ((v : ℕ) → v < b → Drawable (k v))
+abbrev pub Drawable : {A : Type 0} → Plan A → Type 0
+Drawable p = Every (λ _. Unit {0}) p
+
+-- no path makes more than n draws
+unfoldable pub Within : {A : Type 0} → ℕ → Plan A → Type 0
+Within n (done a) = Unit {0}
+Within zero (draw b k) = ⊥
+Within (suc n) (draw b k) = (v : ℕ) → v < b → Within n (k v)
 
 -- a path through a plan (the document's "way"): the values drawn, the product of the bounds met, the result
 pub record Path (A : Type 0) : Type 0 where

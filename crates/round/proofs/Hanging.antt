@@ -1,0 +1,79 @@
+-- Laws of the mean over where the held lifts hang: it goes along with equality, and mixtures of mixtures can be sorted.
+use Prim.Native.Nat.{ℕ, zero, suc, _+_, _*_, _-_, _≤_, _<_}
+use mathlib.Core.Path.{_≡_, refl, sym, ap, ap₂, _∙_}
+use mathlib.Core.List.{List}
+use native.Mathlib.Nat.{mul-pos}
+use native.Mathlib.Omega.{arith}
+use lib.ListN.{length}
+use Rattle.laws.specs.Sum.{Σ}
+use Rattle.laws.specs.Fraction.{Fraction, _//_, _⊕_, _⊗_, _≈_, sum}
+use Rattle.laws.proofs.Fractions.{≈-refl, ≈-sym, ≈-trans, ⊕-≈, ⊕-same, ⊗-≈, ⊗-assoc, ⊗-distrib-right, sum-≈, sum-den, sum-same, sum-add, sum-part, sum-right, sum-mix}
+use Rattle.round.specs.Round.{Lift, liftAt, sent, U}
+use Rattle.round.specs.Share.{Hangs, here, elsewhere, heldOf, overHangs, overHeld}
+use Rattle.round.specs.declared.Donors.{Donors}
+use Rattle.round.specs.declared.Donors.the-variants.{None, One, Two}
+use Rattle.round.specs.declared.Held.{Held}
+use Rattle.round.specs.declared.Held.the-variants.{Neither, Single, Both}
+
+-- the held lifts stand at places below n
+abbrev pub Inside : ℕ → Held → Type 0
+Inside n Neither = Unit {0}
+Inside n (Single i) = i < n
+Inside n (Both i j) = (i < n) × (j < n)
+
+-- ---- one donor
+
+module _ (k T : ℕ) (ls : List Lift) (p : 0 < T) where
+  pub hangs-≈ : (f g : Hangs → Fraction) → ((i : ℕ) → i < length ls → f (here i) ≈ g (here i)) → f elsewhere ≈ g elsewhere → overHangs k T ls f ≈ overHangs k T ls g
+  unfolding overHangs
+  hangs-≈ f g h e = ⊕-≈ (sum-≈ (length ls) (λ i l. ⊗-≈ (≈-refl p) (h i l))) (⊗-≈ (≈-refl p) e)
+
+  -- over one denominator
+  pub hangs-same : (f : Hangs → Fraction) {x : ℕ → ℕ} {y R : ℕ} → 0 < R → ((i : ℕ) → i < length ls → f (here i) ≈ x i // R) → f elsewhere ≈ y // R
+      → overHangs k T ls f ≈ (Σ (length ls) (λ i. sent k (liftAt ls i) * x i) + (T - U k ls) * y) // (T * R)
+  unfolding overHangs
+  hangs-same f q h e = ⊕-same (sum-same (length ls) (mul-pos p q) (λ i l. ⊗-≈ (≈-refl p) (h i l))) (⊗-≈ (≈-refl p) e)
+
+  pub hangs-mix : (m : ℕ) (a : Hangs → ℕ → Fraction) (g : ℕ → Fraction) → ((x : Hangs) (i : ℕ) → i < m → 0 < a x i .den) → ((i : ℕ) → i < m → 0 < g i .den)
+      → overHangs k T ls (λ x. sum m (λ i. a x i ⊗ g i)) ≈ sum m (λ i. overHangs k T ls (λ x. a x i) ⊗ g i)
+  unfolding overHangs
+  hangs-mix m a g u v =
+      let n = length ls in
+      let w : ℕ → Fraction = λ h. sent k (liftAt ls h) // T in let z : Fraction = (T - U k ls) // T in
+      let A : ℕ → Fraction = λ i. sum n (λ h. w h ⊗ a (here h) i) in
+      let r = sum-mix n m w (λ h i. a (here h) i) g (λ h _. p) (λ h _ i l. u (here h) i l) v in
+      let e : z ⊗ sum m (λ i. a elsewhere i ⊗ g i) ≈ sum m (λ i. (z ⊗ a elsewhere i) ⊗ g i)
+      = ≈-trans (≈-sym (sum-part m z (λ i. a elsewhere i ⊗ g i) p (λ i l. mul-pos (u elsewhere i l) (v i l))))
+      (sum-≈ m (λ i l. rw (⊗-assoc z (a elsewhere i) (g i)) (≈-refl (mul-pos p (mul-pos (u elsewhere i l) (v i l)))))) in
+      ≈-trans (⊕-≈ r e) (rw (← sum-add m (λ i. A i ⊗ g i) (λ i. (z ⊗ a elsewhere i) ⊗ g i)) (sum-≈ m (λ i l.
+      ⊗-distrib-right (A i) (z ⊗ a elsewhere i) (g i) (sum-den n (λ h. w h ⊗ a (here h) i) (λ h _. mul-pos p (u (here h) i l))) (mul-pos p (u elsewhere i l)) (v i l))))
+
+-- ---- all donors
+
+-- the donors' whole old sums are above 0
+abbrev pub Sums : Donors → Type 0
+Sums None = Unit {0}
+Sums (One T) = 0 < T
+Sums (Two T₁ T₂) = (0 < T₁) × (0 < T₂)
+
+pub held-≈ : (ds : Donors) (ls : List Lift) → Sums ds → (f g : Held → Fraction) → ((h : Held) → Inside (length ls) h → f h ≈ g h) → overHeld ds ls f ≈ overHeld ds ls g
+unfolding overHeld
+held-≈ None ls p f g h = h Neither tt
+held-≈ (One T) ls p f g h = hangs-≈ 1 T ls p _ _ (λ i l. h (Single i) l) (h Neither tt)
+held-≈ (Two T₁ T₂) ls p f g h =
+    hangs-≈ 1 T₁ ls (p .0) _ _ (λ i l. hangs-≈ 2 T₂ ls (p .1) _ _ (λ j k. h (Both i j) (l, k)) (h (Single i) l))
+    (hangs-≈ 2 T₂ ls (p .1) _ _ (λ j k. h (Single j) k) (h Neither tt))
+
+pub hangs-den : (k T : ℕ) (ls : List Lift) (f : Hangs → Fraction) → 0 < T → ((x : Hangs) → 0 < f x .den) → 0 < overHangs k T ls f .den
+hangs-den k T ls f p h = hangs-≈ k T ls p f f (λ i l. ≈-refl (h (here i))) (≈-refl (h elsewhere)) .left
+
+pub held-mix : (ds : Donors) (ls : List Lift) → Sums ds → (m : ℕ) (a : Held → ℕ → Fraction) (g : ℕ → Fraction) → ((h : Held) (i : ℕ) → i < m → 0 < a h i .den)
+    → ((i : ℕ) → i < m → 0 < g i .den) → overHeld ds ls (λ h. sum m (λ i. a h i ⊗ g i)) ≈ sum m (λ i. overHeld ds ls (λ h. a h i) ⊗ g i)
+unfolding overHeld
+held-mix None ls p m a g u v = ≈-refl (sum-den m (λ i. a Neither i ⊗ g i) (λ i l. mul-pos (u Neither i l) (v i l)))
+held-mix (One T) ls p m a g u v = hangs-mix 1 T ls p m (λ x. a (heldOf x elsewhere)) g (λ x. u (heldOf x elsewhere)) v
+held-mix (Two T₁ T₂) ls p m a g u v =
+    let inner : (x : Hangs) → overHangs 2 T₂ ls (λ y. sum m (λ i. a (heldOf x y) i ⊗ g i)) ≈ sum m (λ i. overHangs 2 T₂ ls (λ y. a (heldOf x y) i) ⊗ g i)
+    = λ x. hangs-mix 2 T₂ ls (p .1) m (λ y. a (heldOf x y)) g (λ y. u (heldOf x y)) v in
+    ≈-trans (hangs-≈ 1 T₁ ls (p .0) _ (λ x. sum m (λ i. overHangs 2 T₂ ls (λ y. a (heldOf x y) i) ⊗ g i)) (λ i l. inner (here i)) (inner elsewhere))
+    (hangs-mix 1 T₁ ls (p .0) m (λ x i. overHangs 2 T₂ ls (λ y. a (heldOf x y) i)) g (λ x i l. hangs-den 2 T₂ ls _ (p .1) (λ y. u (heldOf x y) i l)) v)

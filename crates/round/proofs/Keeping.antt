@@ -1,0 +1,104 @@
+-- Keeping: each lift keeps the smaller of its weights, and a coupling keeps no more than a row's and a column's sum.
+use Prim.Native.Nat.{ℕ, zero, suc, _+_, _*_, _-_, _≤_, _<_, min}
+use mathlib.Core.Path.{_≡_, refl, sym, ap, ap₂, _∙_, fun-ext}
+use mathlib.Core.Bool.{Bool, true, false}
+use mathlib.Core.List.{List, map}
+use native.Mathlib.Nat.{mul-pos, mul-le-mul-right, min-eq-left, add-zero}
+use native.Mathlib.Omega.{arith}
+use lib.ListN.{length}
+use lib.Dec.{leb, eqb}
+use borrow.Author.Tests.{leb-true, leb-false, eqb-true, eqb-false, eq-eqb, ne-eqb}
+use Rattle.laws.specs.Sum.{over, Σ, total}
+use Rattle.laws.specs.Fraction.{Fraction, _//_, _⊕_, _⊗_, _≈_, sum}
+use Rattle.laws.specs.Plan.{Plan, after, Every, Drawable, paths, weight, mass}
+use Rattle.laws.proofs.Sums.{over-ext, Σ-mono, Σ-mul, Σ-map, Σ-term}
+use Rattle.laws.proofs.Fractions.{≈-refl, ≈-trans, ≈-num, ⊕-same, ⊗-≈, sum-≈}
+use Rattle.laws.proofs.Masses.{weighed, mass-den}
+use Rattle.round.specs.Round.{Lift, liftAt, S, sent, U, D, oldWeight, Weight, weights, weightAt, Sends, Fitting}
+use Rattle.round.specs.Choice.{Selection, fresh, preliminary, keyfitz, select, plan, isHeld}
+use Rattle.round.specs.Share.{Hangs, here, elsewhere, heldOf, overHangs, overHeld, chooses}
+use Rattle.round.specs.Keep.{kept, Coupling, tickets, keptTickets, Keeps}
+use Rattle.round.specs.declared.Donors.{Donors}
+use Rattle.round.specs.declared.Donors.the-variants.{One}
+use Rattle.round.specs.declared.Held.{Held}
+use Rattle.round.specs.declared.Held.the-variants.{Neither, Single}
+use Rattle.round.proofs.Weights.{old-sum, new-sum, one-positive}
+use Rattle.round.proofs.Keyfitz.{none, smaller, drawable, stays}
+use Rattle.round.proofs.Shares.{weight-at, length-weights, every-fresh, every-update}
+
+-- ---- couplings
+
+min-times : (a b x y : ℕ) → x ≤ a * y → x ≤ b * y → x ≤ min a b * y
+min-times a b x y h k = go (leb a b) refl
+  where
+    go : (t : Bool) → leb a b ≡ t → x ≤ min a b * y
+    go true e = let l = leb-true a b e in rw (min-eq-left l) h
+    go false e = let l = leb-false a b e in let m : min a b ≡ b = omega arith in rw m k
+
+module _ (ws : List Weight) (times : ℕ) (grid : ℕ → ℕ → ℕ) (c : Coupling ws times grid) where
+  -- all tickets are the old weights' sum, times the whole number
+  all-tickets : tickets (length ws) grid ≡ total (map (λ w. w .old) ws) * times
+  all-tickets =
+      over-ext _+_ 0 (length ws) (c .rows) ∙ Σ-mul (length ws) (λ i. weightAt ws i .old) times ∙ ap (λ t. t * times) (Σ-map (λ w. w .old) none ws)
+
+  -- the kept ones are at most the smaller weights' sum, times the whole number
+  at-most : keptTickets (length ws) grid ≤ total (map smaller ws) * times
+  at-most =
+      let term : (i : ℕ) → i < length ws → grid i i ≤ smaller (weightAt ws i) * times
+      = λ i l. min-times (weightAt ws i .old) (weightAt ws i .new) (grid i i) times
+      (rw (c .rows i l) at (Σ-term (length ws) i (λ j. grid i j) l)) (rw (c .columns i l) at (Σ-term (length ws) i (λ j. grid j i) l)) in
+      rw (Σ-mul (length ws) (λ i. smaller (weightAt ws i)) times ∙ ap (λ t. t * times) (Σ-map smaller none ws)) at (Σ-mono (length ws) term)
+
+-- ---- what is kept
+
+eqb-comm : (a b : ℕ) → eqb a b ≡ eqb b a
+eqb-comm a b = go (eqb a b) refl
+  where
+    go : (t : Bool) → eqb a b ≡ t → eqb a b ≡ eqb b a
+    go true e = e ∙ sym (eq-eqb b a (sym (eqb-true a b e)))
+    go false e = e ∙ sym (ne-eqb b a (λ h. eqb-false a b e (sym h)))
+
+module _ (T : ℕ) (ls : List Lift) (f : Fitting (One T) ls) (whole : U 1 ls ≡ T) where
+  keeps-here : (i : ℕ) → i < length ls → weight (λ s. isHeld (Single i) (s .place)) (paths (plan (One T) ls (Single i))) ≈ mass (chooses i) (keyfitz (weights (One T) ls) i)
+  unfolding plan preliminary after select
+  keeps-here i l =
+      rw (fun-ext {f = λ (s : Selection). eqb i (s .place)} {g = chooses i} (λ s. eqb-comm i (s .place)))
+      (weighed (chooses i) (keyfitz (weights (One T) ls) i) (every-update (One T) ls (f .positive) (one-positive (f .donate)) i l) .agree)
+
+  -- the old measure over T is the old weight over D × S
+  old-part : (i : ℕ) → i < length ls → sent 1 (liftAt ls i) // T ≈ weightAt (weights (One T) ls) i .old // (D (One T) ls * S ls)
+  unfolding D oldWeight
+  old-part i l =
+      rw (weight-at (One T) ls i l) (record {
+        cross = rw whole (omega arith);
+        left = rw (← whole) (f .donate .some);
+        right = mul-pos (f .donate .some) (f .positive);
+      })
+
+  -- no held lift is elsewhere
+  elsewhere-part : (T - U 1 ls) // T ⊗ weight (λ s. isHeld Neither (s .place)) (paths (plan (One T) ls Neither)) ≈ 0 // (D (One T) ls * S ls)
+  unfolding plan preliminary after select
+  elsewhere-part =
+      let d = weighed (λ s. isHeld Neither (s .place)) (fresh ls) (every-fresh ls (f .positive)) .agree .left in
+      let e : T - U 1 ls ≡ 0 = omega arith in let p : 0 < T = rw (← whole) (f .donate .some) in
+      rw e (record { cross = omega arith; left = mul-pos p d; right = mul-pos (one-positive (f .donate)) (f .positive) })
+
+  kept-sum : kept (One T) ls ≈ total (map smaller (weights (One T) ls)) // (D (One T) ls * S ls)
+  unfolding kept overHeld overHangs
+  kept-sum =
+      let ws = weights (One T) ls in let N : ℕ = D (One T) ls * S ls in
+      let here-part : sum (length ls) (λ i. weightAt ws i .old // N ⊗ mass (chooses i) (keyfitz ws i)) ≈ total (map smaller ws) // N
+      = rw (length-weights (One T) ls) at (stays ws N (mul-pos (one-positive (f .donate)) (f .positive)) (old-sum (One T) ls) (new-sum (One T) ls)) in
+      ≈-num (add-zero (total (map smaller ws)))
+      (⊕-same (≈-trans (sum-≈ (length ls) (λ i l. ⊗-≈ (old-part i l) (keeps-here i l))) here-part) elsewhere-part)
+
+  pub keeps : Keeps T ls
+  keeps = record {
+    most = λ times grid c.
+        let ws = weights (One T) ls in let d = kept (One T) ls .den in
+        let e : tickets (length ls) grid ≡ D (One T) ls * S ls * times
+        = rw (length-weights (One T) ls, old-sum (One T) ls) at (all-tickets ws times grid c) in
+        let m : keptTickets (length ls) grid ≤ total (map smaller ws) * times = rw (length-weights (One T) ls) at (at-most ws times grid c) in
+        rw e (omega (arith, mul-le-mul-right d m, ap (λ x. x * times) (kept-sum .cross)));
+    exactly = kept-sum;
+  }

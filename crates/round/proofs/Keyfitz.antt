@@ -1,0 +1,136 @@
+-- Keyfitz's update on any two lists of weights with equal sums: of a unit's old weight the smaller of both weights stays with it, and its loss goes to the others by their growths.
+use Prim.Native.Nat.{ℕ, zero, suc, _+_, _*_, _-_, _≤_, _<_, min}
+use mathlib.Core.Path.{_≡_, refl, sym, ap, ap₂, _∙_}
+use mathlib.Core.Bool.{Bool, true, false, cond}
+use mathlib.Core.List.{List, [], _∷_, map}
+use native.Mathlib.Nat.{mul-pos, min-eq-left, sub-eq-zero-of-le, zero-mul, add-zero, add-mul, zero-sub, suc-sub-suc, mul-zero}
+use native.Mathlib.Omega.{arith}
+use lib.ListN.{length, getD, List·getD-map, length-map}
+use lib.Dec.{leb, ltb, eqb}
+use borrow.Author.Tests.{leb-true, leb-false, eq-eqb}
+use Rattle.laws.specs.Sum.{Σ, total, indicator}
+use Rattle.laws.specs.Interval.{pick}
+use Rattle.laws.specs.Fraction.{Fraction, _//_, _⊗_, _≈_, sum}
+use Rattle.laws.specs.Plan.{Plan, done, draw, Every, Drawable, mass}
+use Rattle.laws.proofs.Sums.{over-ext, Σ-add, Σ-mul, Σ-step, Σ-one, Σ-map, map-le}
+use Rattle.laws.proofs.Fractions.{≈-refl, ⊗-≈, ⊗-part, cancel, sum-same}
+use Rattle.laws.proofs.Masses.{mass-even, mass-hits}
+use Rattle.round.specs.Round.{Weight, weightAt, growth, G}
+use Rattle.round.specs.Choice.{Selection, selection, stayOr, replacement, keyfitz}
+use Rattle.round.specs.Share.{chooses}
+use Rattle.round.proofs.Weights.{loss, losses, dropped-G}
+
+abbrev pub none : Weight
+none = record { old = 0; new = 0 }
+
+-- the smaller of both weights
+abbrev pub smaller : Weight → ℕ
+smaller w = min (w .old) (w .new)
+
+-- ---- one unit
+
+mass-cond : {A : Type 0} (t : A → Bool) (b : Bool) (p₁ p₂ : Plan A) {x y S : ℕ} → mass t p₁ ≈ x // S → mass t p₂ ≈ y // S
+    → mass t (cond b p₁ p₂) ≈ cond b x y // S
+mass-cond t true p₁ p₂ h k = h
+mass-cond t false p₁ p₂ h k = k
+
+-- a draw below o: for n of its values one plan, for the others another
+pub mass-split : {A : Type 0} (t : A → Bool) (p₁ p₂ : Plan A) {x y S : ℕ} (o n : ℕ) → 0 < S → 0 < o → n ≤ o → mass t p₁ ≈ x // S → mass t p₂ ≈ y // S
+    → mass t (draw o (λ r. cond (ltb r n) p₁ p₂)) ≈ (n * x + (o - n) * y) // (o * S)
+unfolding mass
+mass-split t p₁ p₂ {x} {y} o n p q l h k =
+    let e : Σ o (λ r. cond (ltb r n) x y) ≡ n * x + (o - n) * y = ap (λ m. Σ m (λ r. cond (ltb r n) x y)) (omega arith) ∙ Σ-step n (o - n) x y in
+    rw e at (mass-even o q p (λ r _. mass-cond t (ltb r n) p₁ p₂ h k))
+
+-- of the old weight, of N, the smaller weight stays and the loss moves
+mass-stayOr : {A : Type 0} (t : A → Bool) (stay move : Plan A) {x y : ℕ} (w : Weight) (N S : ℕ) → 0 < N → 0 < S → mass t stay ≈ x // S
+    → (w .new < w .old → mass t move ≈ y // S) → w .old // N ⊗ mass t (stayOr w stay move) ≈ (smaller w * x + loss w * y) // (N * S)
+unfolding stayOr
+mass-stayOr t stay move {x} {y} w N S p q h k = go (leb (w .old) (w .new)) refl
+  where
+    go : (b : Bool) → leb (w .old) (w .new) ≡ b
+        → w .old // N ⊗ mass t (cond b stay (draw (w .old) (λ r. cond (ltb r (w .new)) stay move))) ≈ (smaller w * x + loss w * y) // (N * S)
+    go true e =
+        let l = leb-true (w .old) (w .new) e in
+        rw (min-eq-left l, sub-eq-zero-of-le l, zero-mul, add-zero) (⊗-≈ (≈-refl {q = w .old // N} p) h)
+    go false e =
+        let l = leb-false (w .old) (w .new) e in let m : smaller w ≡ w .new = omega arith in
+        rw m (⊗-part (w .old) N S p (mass-split t stay move (w .old) (w .new) q (omega arith) (omega arith) h (k l)))
+
+-- what of the old weight of unit i comes to unit j, times H
+abbrev pub passes : List Weight → ℕ → ℕ → ℕ → ℕ
+passes ws H j i = smaller (weightAt ws i) * (indicator (eqb i j) * H) + loss (weightAt ws i) * growth (weightAt ws j)
+
+pub unit : (ws : List Weight) (i j N H : ℕ) → j < length ws → 0 < N → 0 < H → (weightAt ws i .new < weightAt ws i .old → G ws ≡ H)
+    → weightAt ws i .old // N ⊗ mass (chooses j) (keyfitz ws i) ≈ passes ws H j i // (N * H)
+unfolding keyfitz mass replacement G
+unit ws i j N H u p q h =
+    mass-stayOr (chooses j) (done (selection i false)) _ (weightAt ws i) N H p q (record { cross = omega arith; left = omega arith; right = q })
+    (λ l. let g : getD (map growth ws) j 0 ≡ growth (weightAt ws j) = List·getD-map growth ws j none in
+    rw (← h l) (rw g at (mass-hits (chooses j) (map growth ws) (λ a. selection a true) j (rw length-map u) (omega (arith, h l)) (λ a. refl))))
+
+-- ---- all units together
+
+-- a common denominator: G, or 1 where G is 0
+unit-of : (G : ℕ) → (H : ℕ) × (0 < H) × (0 < G → G ≡ H)
+unit-of zero = (1, omega arith, omega arith)
+unit-of (suc G) = (suc G, omega arith, λ _. refl)
+
+times : (G H g : ℕ) → g ≤ G → (0 < G → G ≡ H) → G * g ≡ g * H
+times G H zero l h = omega arith
+times G H (suc g) l h = rw (← h (omega arith)) (omega arith)
+
+numerators : (ws : List Weight) (j H : ℕ) → j < length ws → (0 < G ws → G ws ≡ H) → total (map loss ws) ≡ G ws
+    → Σ (length ws) (passes ws H j) ≡ weightAt ws j .new * H
+unfolding G
+numerators ws j H l h b =
+    Σ-add (length ws) (λ i. smaller (weightAt ws i) * (indicator (eqb i j) * H)) (λ i. loss (weightAt ws i) * growth (weightAt ws j))
+    ∙ ap₂ _+_
+    (over-ext _+_ 0 (length ws) {g = λ i. smaller (weightAt ws i) * H * indicator (eqb i j)} (λ i _. omega arith) ∙ Σ-one (length ws) j (λ i. smaller (weightAt ws i) * H) l)
+    (Σ-mul (length ws) (λ i. loss (weightAt ws i)) (growth (weightAt ws j)) ∙ ap (λ t. t * growth (weightAt ws j)) (Σ-map loss none ws ∙ b)
+    ∙ times (total (map growth ws)) H (growth (weightAt ws j)) (map-le growth none ws j l) h)
+    ∙ sym (add-mul (smaller (weightAt ws j)) (growth (weightAt ws j)) H) ∙ ap (λ t. t * H) (omega arith)
+
+either : (a b : ℕ) → (a - b) * (b - a) ≡ 0
+either zero b = simp (zero-sub, zero-mul)
+either (suc a) zero = simp (zero-sub, mul-zero)
+either (suc a) (suc b) = simp suc-sub-suc (either a b)
+
+own : (ws : List Weight) (H : ℕ) → Σ (length ws) (λ i. passes ws H i i) ≡ total (map smaller ws) * H
+own ws H =
+    over-ext _+_ 0 (length ws) {g = λ i. smaller (weightAt ws i) * H} (λ i _. rw (eq-eqb i i refl, either (weightAt ws i .old) (weightAt ws i .new)) (omega arith))
+    ∙ Σ-mul (length ws) (λ i. smaller (weightAt ws i)) H ∙ ap (λ t. t * H) (Σ-map smaller none ws)
+
+every-cond : {A : Type 0} (P : A → Type 0) (b : Bool) (p q : Plan A) → Every P p → Every P q → Every P (cond b p q)
+every-cond P true p q f g = f
+every-cond P false p q f g = g
+
+every-stayOr : {A : Type 0} (P : A → Type 0) (w : Weight) (stay move : Plan A) → Every P stay → (w .new < w .old → Every P move) → Every P (stayOr w stay move)
+unfolding Every stayOr
+every-stayOr P w stay move f g = go (leb (w .old) (w .new)) refl
+  where
+    go : (b : Bool) → leb (w .old) (w .new) ≡ b → Every P (cond b stay (draw (w .old) (λ r. cond (ltb r (w .new)) stay move)))
+    go true e = f
+    go false e = let l = leb-false (w .old) (w .new) e in (omega arith, λ r _. every-cond P (ltb r (w .new)) stay move f (g l))
+
+module _ (ws : List Weight) (N : ℕ) (p : 0 < N) (e : total (map (λ w. w .old) ws) ≡ N) (f : total (map (λ w. w .new) ws) ≡ N) where
+  common : (i : ℕ) (H : ℕ) → i < length ws → (0 < G ws → G ws ≡ H) → weightAt ws i .new < weightAt ws i .old → G ws ≡ H
+  common i H l h m = h (dropped-G ws i (e ∙ sym f) l m)
+
+  -- every unit that may be preliminary has its update
+  pub drawable : (i : ℕ) → i < length ws → Drawable (keyfitz ws i)
+  unfolding Every keyfitz replacement
+  drawable i l = every-stayOr (λ _. Unit {0}) (weightAt ws i) (done (selection i false)) _ tt (λ m. (dropped-G ws i (e ∙ sym f) l m, λ _ _. tt))
+
+  -- each unit has its new weight
+  pub updated : (j : ℕ) → j < length ws → sum (length ws) (λ i. weightAt ws i .old // N ⊗ mass (chooses j) (keyfitz ws i)) ≈ weightAt ws j .new // N
+  updated j l =
+      let (H, q, h) = unit-of (G ws) in
+      cancel H (rw (numerators ws j H l h (losses ws (e ∙ sym f))) at
+      (sum-same (length ws) (mul-pos p q) (λ i k. unit ws i j N H l p q (common i H k h))))
+
+  -- the smaller weights stay
+  pub stays : sum (length ws) (λ i. weightAt ws i .old // N ⊗ mass (chooses i) (keyfitz ws i)) ≈ total (map smaller ws) // N
+  stays =
+      let (H, q, h) = unit-of (G ws) in
+      cancel H (rw (own ws H) at (sum-same (length ws) (mul-pos p q) (λ i k. unit ws i i N H k p q (common i H k h))))

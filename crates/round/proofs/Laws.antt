@@ -1,0 +1,86 @@
+-- The laws of a round's weights and draws, put together.
+use Prim.Native.Nat.{ℕ, zero, suc, _+_, _*_, _<_}
+use mathlib.Core.Path.{_≡_, sym, _∙_}
+use mathlib.Core.Bool.{Bool, true, false, cond}
+use mathlib.Core.List.{List}
+use native.Mathlib.Omega.{arith}
+use lib.ListN.{length}
+use lib.Dec.{leb, ltb}
+use Rattle.laws.specs.Plan.{Plan, done, draw, after, Every, Drawable, Within}
+use Rattle.laws.proofs.Masses.{every-after}
+use Rattle.round.specs.Round.{Lift, S, D, Weight, weights, weightAt, Fitting}
+use Rattle.round.specs.Choice.{Preliminary, nobody, place, fresh, firstOdds, preliminary, stayOr, replacement, keyfitz, select, plan}
+use Rattle.round.specs.Slices.{Bounded, Stands}
+use Rattle.round.specs.Law.{Lawful}
+use Rattle.round.specs.declared.Donors.{Donors}
+use Rattle.round.specs.declared.Donors.the-variants.{None, One, Two}
+use Rattle.round.specs.declared.Held.{Held}
+use Rattle.round.specs.declared.Held.the-variants.{Neither, Single, Both}
+use Rattle.round.proofs.Weights.{old-sum, new-sum, losses, dropped-G, weight-bound, one-positive, two-positive}
+use Rattle.round.proofs.Hanging.{Inside}
+use Rattle.round.proofs.Shares.{length-weights, every-fresh, every-select, every-preliminary, Placed}
+
+-- ---- at most three draws
+
+within-more : {A : Type 0} (n : ℕ) (p : Plan A) → Within n p → Within (suc n) p
+unfolding Within
+within-more n (done a) w = tt
+within-more zero (draw b k) w = absurd w
+within-more (suc n) (draw b k) w = λ v l. within-more n (k v) (w v l)
+
+within-cond : {A : Type 0} (n : ℕ) (b : Bool) (p q : Plan A) → Within n p → Within n q → Within n (cond b p q)
+within-cond n true p q u w = u
+within-cond n false p q u w = w
+
+within-stayOr : {A : Type 0} (n : ℕ) (w : Weight) (stay move : Plan A) → Within n stay → Within n move → Within (suc n) (stayOr w stay move)
+unfolding Within stayOr
+within-stayOr n w stay move u v =
+    within-cond (suc n) (leb (w .old) (w .new)) stay (draw (w .old) (λ r. cond (ltb r (w .new)) stay move)) (within-more n stay u)
+    (λ r _. within-cond n (ltb r (w .new)) stay move u v)
+
+within-keyfitz : (ws : List Weight) (i : ℕ) → Within 2 (keyfitz ws i)
+unfolding Within keyfitz replacement
+within-keyfitz ws i = within-stayOr 1 (weightAt ws i) _ _ tt (λ q _. tt)
+
+within-select : (ds : Donors) (ls : List Lift) (a : Preliminary) → Within 2 (select ds ls a)
+unfolding Within select fresh
+within-select ds ls nobody = λ v l. tt
+within-select ds ls (place i) = within-keyfitz (weights ds ls) i
+
+three : (ds : Donors) (ls : List Lift) (h : Held) → Within 3 (plan ds ls h)
+unfolding Within plan preliminary after
+three ds ls Neither = within-more 2 (select ds ls nobody) (within-select ds ls nobody)
+three ds ls (Single i) = within-more 2 (select ds ls (place i)) (within-select ds ls (place i))
+three ds ls (Both i j) = λ v l. within-select ds ls (place (cond (ltb v (firstOdds ds ls)) i j))
+
+-- ---- every draw has a value
+
+inside : (ds : Donors) (ls : List Lift) → 0 < S ls → 0 < D ds ls → (h : Held) → Inside (length ls) h → Drawable (plan ds ls h)
+unfolding plan
+inside ds ls q p h u =
+    every-after (Placed (length ls)) (λ _. Unit {0}) (preliminary ds ls h) (select ds ls) (every-preliminary ds ls (length ls) p h u) (every-select ds ls q p)
+
+drawable : (ds : Donors) (ls : List Lift) → Fitting ds ls → (h : Held) → Stands ds h (length ls) → Drawable (plan ds ls h)
+unfolding plan preliminary after select
+drawable None ls f Neither s = every-fresh ls (f .positive)
+drawable None ls f (Single i) s = absurd s
+drawable None ls f (Both i j) s = absurd s
+drawable (One T) ls f Neither s = every-fresh ls (f .positive)
+drawable (One T) ls f (Single i) s = inside (One T) ls (f .positive) (one-positive (f .donate)) (Single i) s
+drawable (One T) ls f (Both i j) s = absurd s
+drawable (Two T₁ T₂) ls f Neither s = every-fresh ls (f .positive)
+drawable (Two T₁ T₂) ls f (Single i) s = inside (Two T₁ T₂) ls (f .positive) (two-positive (f .donate .0) (f .donate .1)) (Single i) s
+drawable (Two T₁ T₂) ls f (Both i j) s = inside (Two T₁ T₂) ls (f .positive) (two-positive (f .donate .0) (f .donate .1)) (Both i j) s
+
+pub lawful : (ds : Donors) (ls : List Lift) → Fitting ds ls → Bounded ds ls → Lawful ds ls
+lawful ds ls f b =
+    let e = old-sum ds ls ∙ sym (new-sum ds ls) in
+    record {
+      olds = old-sum ds ls;
+      news = new-sum ds ls;
+      bound = weight-bound ds ls f b;
+      losses = losses (weights ds ls) e;
+      grows = λ i l. dropped-G (weights ds ls) i e (rw (length-weights ds ls) l);
+      three = three ds ls;
+      drawable = drawable ds ls f;
+    }

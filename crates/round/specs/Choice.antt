@@ -1,0 +1,80 @@
+-- "One round" of document 01: the choice, as one tree of draws.
+use Prim.Native.Nat.{ℕ, _*_}
+use mathlib.Core.Bool.{Bool, true, false, cond}
+use mathlib.Core.List.{List, map}
+use lib.Dec.{leb, ltb, eqb}
+use Rattle.laws.specs.Interval.{pick}
+use Rattle.laws.specs.Plan.{Plan, done, draw, after}
+use Rattle.draw.specs.Run.{Run, ended, short}
+use Rattle.round.specs.Round.{Lift, S, U, D, Weight, weights, weightAt, growth, G}
+use Rattle.round.specs.declared.Donors.{Donors}
+use Rattle.round.specs.declared.Donors.the-variants.{None, One, Two}
+use Rattle.round.specs.declared.Held.{Held}
+use Rattle.round.specs.declared.Held.the-variants.{Neither, Single, Both}
+use Rattle.round.specs.declared.Selected.{Selected}
+use Rattle.round.specs.declared.Selected.the-variants.{At, Short}
+
+-- the place of the preliminary lift, or that there is none
+pub data Preliminary : Type 0 where
+  nobody : Preliminary
+  place : ℕ → Preliminary
+
+-- the place of the chosen lift, and whether a preliminary lift was dropped for it
+pub record Selection : Type 0 where
+  pub place : ℕ
+  pub dropped : Bool
+
+abbrev pub selection : ℕ → Bool → Selection
+selection i d = record { place = i; dropped = d }
+
+-- "No held lift here: draw f below S; take the lift in whose stretch f falls when the b are laid end to end, in lift order."
+unfoldable pub fresh : List Lift → Plan Selection
+fresh ls = draw (S ls) (λ f. done (selection (pick (map (λ l. l .new) ls) f) false))
+
+-- "U2 × T1"
+unfoldable pub firstOdds : Donors → List Lift → ℕ
+firstOdds None ls = 0
+firstOdds (One T) ls = 0
+firstOdds (Two T₁ T₂) ls = U 2 ls * T₁
+
+-- "One held lift here: it is preliminary. Two held lifts here: draw v below D. If v is less than U2 × T1, donor 1's lift is preliminary, else donor 2's."
+unfoldable pub preliminary : Donors → List Lift → Held → Plan Preliminary
+preliminary ds ls Neither = done nobody
+preliminary ds ls (Single i) = done (place i)
+preliminary ds ls (Both i j) = draw (D ds ls) (λ v. done (place (cond (ltb v (firstOdds ds ls)) i j)))
+
+-- "The preliminary lift stays with no draw if its growth is 0 or more. Otherwise draw r below its old weight; it stays if r is less than its new weight."
+unfoldable pub stayOr : {A : Type 0} → Weight → Plan A → Plan A → Plan A
+stayOr w stay move = cond (leb (w .old) (w .new)) stay (draw (w .old) (λ r. cond (ltb r (w .new)) stay move))
+
+-- "If it is dropped, draw q below G and take the lift in whose stretch q falls, the growths above zero laid end to end in lift order."
+unfoldable pub replacement : List Weight → Plan Selection
+replacement ws = draw (G ws) (λ q. done (selection (pick (map growth ws) q) true))
+
+-- Keyfitz's update of the preliminary lift at place i
+unfoldable pub keyfitz : List Weight → ℕ → Plan Selection
+keyfitz ws i = stayOr (weightAt ws i) (done (selection i false)) (replacement ws)
+
+-- what follows for each preliminary lift
+unfoldable pub select : Donors → List Lift → Preliminary → Plan Selection
+select ds ls nobody = fresh ls
+select ds ls (place i) = keyfitz (weights ds ls) i
+
+-- the round's choice, from the round and its held lifts: neither, one or both here
+unfoldable pub plan : Donors → List Lift → Held → Plan Selection
+plan ds ls h = after (preliminary ds ls h) (select ds ls)
+
+-- whether the lift at place i is held
+abbrev pub isHeld : Held → ℕ → Bool
+isHeld Neither i = false
+isHeld (Single a) i = eqb a i
+isHeld (Both a b) i = cond (eqb a i) true (eqb b i)
+
+-- "Outcome: 1 if the choice was held, else 2 if a preliminary lift was dropped, else 3 (fresh)."
+unfoldable pub outcome : Held → Selection → ℕ
+outcome h s = cond (isHeld h (s .place)) 1 (cond (s .dropped) 2 3)
+
+-- the answer to a run of the choice: the place, the outcome and the next position, or short
+abbrev pub answer : Held → Run Selection → Selected
+answer h (ended vs s next) = At (s .place) (outcome h s) next
+answer h short = Short

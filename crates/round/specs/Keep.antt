@@ -1,0 +1,37 @@
+-- How often a held lift is kept, and that no coupling with the same proportions keeps more ("What demand 3 weighs" of document 01).
+use Prim.Native.Nat.{ℕ, _*_, _≤_, _<_, min}
+use mathlib.Core.Path.{_≡_}
+use mathlib.Core.List.{List, map}
+use lib.ListN.{length}
+use Rattle.laws.specs.Sum.{Σ, total}
+use Rattle.laws.specs.Fraction.{Fraction, _//_, _≈_}
+use Rattle.laws.specs.Plan.{paths, weight}
+use Rattle.round.specs.Round.{Lift, S, D, Weight, weights, weightAt}
+use Rattle.round.specs.Choice.{plan, isHeld}
+use Rattle.round.specs.Share.{overHeld}
+use Rattle.round.specs.declared.Donors.{Donors}
+use Rattle.round.specs.declared.Donors.the-variants.{None, One, Two}
+
+-- "what the ways weigh whose lift is held in their own marking"
+unfoldable pub kept : Donors → List Lift → Fraction
+kept ds ls = overHeld ds ls (λ h. weight (λ s. isHeld h (s .place)) (paths (plan ds ls h)))
+
+-- "A rule is any grid of whole tickets, 0 or more in each place, held lift by chosen lift, whose rows sum to the old weights times one whole number and whose columns sum to the new weights times the same."
+pub record Coupling (ws : List Weight) (times : ℕ) (grid : ℕ → ℕ → ℕ) : Type 0 where
+  pub rows : (i : ℕ) → i < length ws → Σ (length ws) (λ j. grid i j) ≡ weightAt ws i .old * times
+  pub columns : (j : ℕ) → j < length ws → Σ (length ws) (λ i. grid i j) ≡ weightAt ws j .new * times
+
+-- "all its tickets"
+abbrev pub tickets : ℕ → (ℕ → ℕ → ℕ) → ℕ
+tickets n grid = Σ n (λ i. Σ n (λ j. grid i j))
+
+-- "It keeps the tickets where both lifts are one."
+abbrev pub keptTickets : ℕ → (ℕ → ℕ → ℕ) → ℕ
+keptTickets n grid = Σ n (λ i. grid i i)
+
+-- "In a round with one donor and U = T, every rule keeps at most as many tickets as all its tickets times what the ways weigh whose lift is held in their own marking."
+pub record Keeps (T : ℕ) (ls : List Lift) : Type 0 where
+  pub most : (times : ℕ) (grid : ℕ → ℕ → ℕ) → Coupling (weights (One T) ls) times grid
+      → keptTickets (length ls) grid * kept (One T) ls .den ≤ tickets (length ls) grid * kept (One T) ls .num
+  -- it is the sum of the smaller of both weights over D × S
+  pub exactly : kept (One T) ls ≈ total (map (λ w. min (w .old) (w .new)) (weights (One T) ls)) // (D (One T) ls * S ls)

@@ -1,0 +1,84 @@
+-- "One round" of document 01: the lifts of a new round, its sums, and the weights and growths of its lifts.
+use Prim.Native.Nat.{ℕ, _+_, _-_, _*_, _≤_, _<_}
+use mathlib.Core.Bool.{cond}
+use mathlib.Core.List.{List, map}
+use lib.ListN.{getD}
+use lib.Dec.{eqb}
+use Rattle.laws.specs.Sum.{total}
+use Rattle.round.specs.declared.Donors.{Donors}
+use Rattle.round.specs.declared.Donors.the-variants.{None, One, Two}
+
+-- a lift of the round: "m and b are a lift's old and new measures"; the donor that it comes from is 1 or 2, or 0 for none
+pub record Lift : Type 0 where
+  pub old : ℕ
+  pub donor : ℕ
+  pub new : ℕ
+
+-- the lift at a place of the round; beyond the last there is none
+abbrev pub liftAt : List Lift → ℕ → Lift
+liftAt ls i = getD ls i (record { old = 0; donor = 0; new = 0 })
+
+-- S: "the new round's sum of b"
+unfoldable pub S : List Lift → ℕ
+S ls = total (map (λ l. l .new) ls)
+
+-- the old measure that a lift brings from donor k
+abbrev pub sent : ℕ → Lift → ℕ
+sent k l = cond (eqb (l .donor) k) (l .old) 0
+
+-- "U is the part of T that came here", T being the whole old sum of donor k
+unfoldable pub U : ℕ → List Lift → ℕ
+U k ls = total (map (sent k) ls)
+
+-- "One donor: D = U." "Two donors: D = U1 × T2 + U2 × T1." Without a donor there is none.
+unfoldable pub D : Donors → List Lift → ℕ
+D None ls = 0
+D (One T) ls = U 1 ls
+D (Two T₁ T₂) ls = U 1 ls * T₂ + U 2 ls * T₁
+
+-- "a lift's old weight is m × S"; with two donors "m × T(other donor) × S"
+unfoldable pub oldWeight : Donors → List Lift → Lift → ℕ
+oldWeight None ls l = 0
+oldWeight (One T) ls l = sent 1 l * S ls
+oldWeight (Two T₁ T₂) ls l = (sent 1 l * T₂ + sent 2 l * T₁) * S ls
+
+-- "New weight is b × D."
+unfoldable pub newWeight : Donors → List Lift → Lift → ℕ
+newWeight ds ls l = l .new * D ds ls
+
+-- the old and the new weight of a unit, of lists with equal sums
+pub record Weight : Type 0 where
+  pub old : ℕ
+  pub new : ℕ
+
+-- the weights of the round's lifts, in lift order
+unfoldable pub weights : Donors → List Lift → List Weight
+weights ds ls = map (λ l. record { old = oldWeight ds ls l; new = newWeight ds ls l }) ls
+
+-- the weights at a place
+abbrev pub weightAt : List Weight → ℕ → Weight
+weightAt ws i = getD ws i (record { old = 0; new = 0 })
+
+-- "Growth is new weight minus old weight": where it is above zero, else 0
+abbrev pub growth : Weight → ℕ
+growth w = w .new - w .old
+
+-- "G is the sum of the growths above zero."
+unfoldable pub G : List Weight → ℕ
+G ws = total (map growth ws)
+
+-- "Old round t is a donor of a new round if it sends it a lift of old measure above 0": so U of donor k is above 0, and it is a part of the donor's whole old sum T
+pub record Sends (k T : ℕ) (ls : List Lift) : Type 0 where
+  pub some : 0 < U k ls
+  pub part : U k ls ≤ T
+
+-- the donors of a round send it measure
+abbrev pub Donate : Donors → List Lift → Type 0
+Donate None ls = Unit {0}
+Donate (One T) ls = Sends 1 T ls
+Donate (Two T₁ T₂) ls = Sends 1 T₁ ls × Sends 2 T₂ ls
+
+-- what every fitting sheet gives of a round: its sum is above 0 (refusal 9), and its donors are donors
+pub record Fitting (ds : Donors) (ls : List Lift) : Type 0 where
+  pub positive : 0 < S ls
+  pub donate : Donate ds ls

@@ -1,0 +1,72 @@
+-- What the paths of a round weigh, over where its donors' held lifts may hang ("What demand 3 weighs" of document 01, for one round).
+use Prim.Native.Nat.{ℕ, _-_, _*_, _<_}
+use mathlib.Core.Path.{_≡_}
+use mathlib.Core.Bool.{Bool, true, false}
+use mathlib.Core.List.{List}
+use lib.ListN.{length}
+use lib.Dec.{eqb}
+use Rattle.laws.specs.Fraction.{Fraction, _//_, _⊕_, _⊗_, _≈_, sum}
+use Rattle.laws.specs.Plan.{Plan, after, Every, paths, weight}
+use Rattle.round.specs.Round.{Lift, liftAt, S, sent, U, D, oldWeight, Weight, weightAt}
+use Rattle.round.specs.Choice.{Preliminary, nobody, place, Selection, preliminary, keyfitz, plan}
+use Rattle.round.specs.declared.Donors.{Donors}
+use Rattle.round.specs.declared.Donors.the-variants.{None, One, Two}
+use Rattle.round.specs.declared.Held.{Held}
+use Rattle.round.specs.declared.Held.the-variants.{Neither, Single, Both}
+
+-- where a donor's held lift hangs: at a place of this round, or in another round
+pub data Hangs : Type 0 where
+  here : ℕ → Hangs
+  elsewhere : Hangs
+
+-- the held lifts in this round, from where those of donor 1 and of donor 2 hang
+abbrev pub heldOf : Hangs → Hangs → Held
+heldOf elsewhere elsewhere = Neither
+heldOf (here i) elsewhere = Single i
+heldOf elsewhere (here j) = Single j
+heldOf (here i) (here j) = Both i j
+
+-- the mean of f over where the held lift of donor k hangs: "A marking names one lift of old measure above 0 in each old round", each by its old measure over the donor's whole old sum T
+unfoldable pub overHangs : ℕ → ℕ → List Lift → (Hangs → Fraction) → Fraction
+overHangs k T ls f = sum (length ls) (λ i. sent k (liftAt ls i) // T ⊗ f (here i)) ⊕ (T - U k ls) // T ⊗ f elsewhere
+
+-- the mean of f over the held lifts in this round: donors are independent, "the product of the held lifts' old measures over the product of all old sums"
+unfoldable pub overHeld : Donors → List Lift → (Held → Fraction) → Fraction
+overHeld None ls f = f Neither
+overHeld (One T) ls f = overHangs 1 T ls (λ x. f (heldOf x elsewhere))
+overHeld (Two T₁ T₂) ls f = overHangs 1 T₁ ls (λ x. overHangs 2 T₂ ls (λ y. f (heldOf x y)))
+
+-- whether the lift at place j is chosen
+abbrev pub chooses : ℕ → Selection → Bool
+chooses j s = eqb (s .place) j
+
+-- whether the lift at place i is preliminary
+abbrev pub comes : ℕ → Preliminary → Bool
+comes i nobody = false
+comes i (place a) = eqb a i
+
+-- whether a lift is preliminary at all
+abbrev pub any : Preliminary → Bool
+any nobody = false
+any (place a) = true
+
+-- what the paths weigh together that choose the lift at place j
+unfoldable pub share : Donors → List Lift → ℕ → Fraction
+share ds ls j = overHeld ds ls (λ h. weight (chooses j) (paths (plan ds ls h)))
+
+-- what the paths weigh together on which the preliminary lift passes the test
+unfoldable pub preliminaryShare : Donors → List Lift → (Preliminary → Bool) → Fraction
+preliminaryShare ds ls t = overHeld ds ls (λ h. weight t (paths (preliminary ds ls h)))
+
+-- Keyfitz's update keeps proportions: if the preliminary unit comes with its old weight over the sum N, the chosen one comes with its new weight over N
+pub record Updates (ws : List Weight) (N : ℕ) : Type 0 where
+  pub updated : (p : Plan ℕ) → Every (λ i. i < length ws) p
+      → ((i : ℕ) → i < length ws → weight (λ a. eqb a i) (paths p) ≈ weightAt ws i .old // N)
+      → (j : ℕ) → j < length ws → weight (chooses j) (paths (after p (keyfitz ws))) ≈ weightAt ws j .new // N
+
+-- "For each lift of the round, b = 0 included, the ways that have it as their lift weigh together exactly b over S."
+pub record Shares (ds : Donors) (ls : List Lift) : Type 0 where
+  pub shares : (j : ℕ) → j < length ls → share ds ls j ≈ liftAt ls j .new // S ls
+  -- given that a held lift is here, the lift at place i is preliminary with its old weight over D × S
+  pub preliminaries : 0 < D ds ls → (i : ℕ) → i < length ls
+      → preliminaryShare ds ls (comes i) ≈ preliminaryShare ds ls any ⊗ oldWeight ds ls (liftAt ls i) // (D ds ls * S ls)

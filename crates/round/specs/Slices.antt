@@ -1,0 +1,95 @@
+-- A round lent as slices, and its weights by three multipliers, as the code computes them.
+use Prim.Native.Nat.{ℕ, _+_, _*_, _^_, _≤_, _<_}
+use mathlib.Core.Path.{_≡_}
+use mathlib.Core.Bool.{Bool, cond}
+use mathlib.Core.List.{List, [], _∷_, map}
+use lib.ListN.{length}
+use lib.Dec.{eqb}
+use Rattle.laws.specs.Sum.{total}
+use Rattle.laws.specs.Interval.{pick}
+use Rattle.laws.specs.Plan.{Plan, done, draw}
+use Rattle.round.specs.Round.{Lift, S, U, Weight, growth, G, Fitting}
+use Rattle.round.specs.Choice.{Selection, selection}
+use Rattle.round.specs.declared.Donors.{Donors}
+use Rattle.round.specs.declared.Donors.the-variants.{None, One, Two}
+use Rattle.round.specs.declared.Held.{Held}
+use Rattle.round.specs.declared.Held.the-variants.{Neither, Single, Both}
+use Rattle.round.specs.declared.Scale.{Scale}
+
+-- the lift of an old measure, a donor and a new measure
+abbrev pub lift : ℕ → ℕ → ℕ → Lift
+lift m d b = record { old = m; donor = d; new = b }
+
+-- the round whose old measures, donors and new measures are these, in lift order
+unfoldable pub lifts : List ℕ → List ℕ → List ℕ → List Lift
+lifts [] ds bs = []
+lifts (m ∷ ms) [] bs = []
+lifts (m ∷ ms) (d ∷ ds) [] = []
+lifts (m ∷ ms) (d ∷ ds) (b ∷ bs) = lift m d b ∷ lifts ms ds bs
+
+-- the three slices are equally long
+pub record Level (ms ds bs : List ℕ) : Type 0 where
+  pub donors : length ds ≡ length ms
+  pub news : length bs ≡ length ms
+
+-- what a donor's old measures are multiplied by
+abbrev pub multiplierOf : Scale → ℕ → ℕ
+multiplierOf s d = cond (eqb d 1) (s .first) (cond (eqb d 2) (s .second) 0)
+
+-- a lift's old and new weight by the multipliers
+abbrev pub scaled : Scale → Lift → Weight
+scaled s l = record { old = l .old * multiplierOf s (l .donor); new = l .new * s .new }
+
+-- the multipliers that give a round's weights
+unfoldable pub scaleOf : Donors → List Lift → Scale
+scaleOf None ls = record { new = 0; first = 0; second = 0 }
+scaleOf (One T) ls = record { new = U 1 ls; first = S ls; second = 0 }
+scaleOf (Two T₁ T₂) ls = record { new = U 1 ls * T₂ + U 2 ls * T₁; first = T₂ * S ls; second = T₁ * S ls }
+
+-- the multipliers with which each lift grows by its whole new measure
+abbrev pub wholly : Scale
+wholly = record { new = 1; first = 0; second = 0 }
+
+-- "at most 2^61": the old weights together and the new weights together
+pub record Room (s : Scale) (ls : List Lift) : Type 0 where
+  pub olds : total (map (λ l. scaled s l .old) ls) ≤ 2 ^ 61
+  pub news : total (map (λ l. scaled s l .new) ls) ≤ 2 ^ 61
+
+-- "each sum of a round's measures at most 1,048,576"
+abbrev pub largestSum : ℕ
+largestSum = 1048576
+
+-- the donors' whole old sums
+abbrev pub SumsBounded : Donors → Type 0
+SumsBounded None = Unit {0}
+SumsBounded (One T) = T ≤ largestSum
+SumsBounded (Two T₁ T₂) = (T₁ ≤ largestSum) × (T₂ ≤ largestSum)
+
+-- no sum is above that (refusal 8)
+pub record Bounded (ds : Donors) (ls : List Lift) : Type 0 where
+  pub new : S ls ≤ largestSum
+  pub old : SumsBounded ds
+
+-- a held lift stands at a place of the round and comes from a donor; both are here only with two donors
+abbrev pub Stands : Donors → Held → ℕ → Type 0
+Stands ds Neither n = Unit {0}
+Stands None (Single i) n = ⊥
+Stands (One T) (Single i) n = i < n
+Stands (Two T₁ T₂) (Single i) n = i < n
+Stands None (Both i j) n = ⊥
+Stands (One T) (Both i j) n = ⊥
+Stands (Two T₁ T₂) (Both i j) n = (i < n) × (j < n)
+
+-- what a caller shows of the round and its held lifts: every fitting sheet gives it
+pub record Callable (ds : Donors) (ls : List Lift) (h : Held) : Type 0 where
+  pub fitting : Fitting ds ls
+  pub bounded : Bounded ds ls
+  pub stands : Stands ds h (length ls)
+
+-- "Both weights sum to D × S": the old weights and the new ones have the same sum
+pub record Balanced (s : Scale) (ls : List Lift) : Type 0 where
+  pub sums : total (map (λ l. scaled s l .old) ls) ≡ total (map (λ l. scaled s l .new) ls)
+
+-- a draw below the sum of the growths takes the lift in whose interval it falls: a replacement, or fresh where the growths are the new measures
+unfoldable pub drawGrowth : Bool → List Weight → Plan Selection
+drawGrowth dropped ws = draw (G ws) (λ q. done (selection (pick (map growth ws) q) dropped))
