@@ -1,5 +1,7 @@
 //! The proved functions of the archive, behind safe wrappers.
 
+use crate::reference::{Choice, Outcome, Round};
+
 extern "C" {
     fn jengpilo_draw_below(
         words: *const u64,
@@ -7,6 +9,27 @@ extern "C" {
         at: usize,
         bound: u64,
         value: *mut u64,
+        next: *mut usize,
+    ) -> bool;
+
+    fn jengpilo_round_select(
+        old: *const u64,
+        old_len: usize,
+        donor: *const u8,
+        donor_len: usize,
+        new: *const u64,
+        new_len: usize,
+        donors: u8,
+        first_sum: u64,
+        second_sum: u64,
+        held: u8,
+        first_place: usize,
+        second_place: usize,
+        words: *const u64,
+        words_len: usize,
+        at: usize,
+        place: *mut usize,
+        outcome: *mut u32,
         next: *mut usize,
     ) -> bool;
 }
@@ -33,4 +56,84 @@ pub fn draw_below(words: &[u64], at: usize, bound: u64) -> Option<(u64, usize)> 
     }
     debug_assert_eq!((value, next), UNWRITTEN, "a refused draw wrote an answer");
     None
+}
+
+/// The choice of one round, reading from position `at`.
+pub fn select(round: &Round, words: &[u64], at: usize) -> Option<Choice> {
+    check_required(round);
+    let old: Vec<u64> = round.lifts.iter().map(|lift| lift.old_measure).collect();
+    let donor = |donor: Option<usize>| donor.map_or(0, |donor| donor as u8 + 1);
+    let donor: Vec<u8> = round.lifts.iter().map(|lift| donor(lift.donor)).collect();
+    let new: Vec<u64> = round.lifts.iter().map(|lift| lift.new_measure).collect();
+    let (held, first_place, second_place) = match round.held {
+        [None, None] => (0, 0, 0),
+        [Some(place), None] | [None, Some(place)] => (1, place, 0),
+        [Some(first), Some(second)] => (2, first, second),
+    };
+    let unwritten = (usize::MAX - 7, u32::MAX - 7, usize::MAX - 9);
+    let (mut place, mut outcome, mut next) = unwritten;
+    // SAFETY: all slices and places live through the call, each length is its slice's, and what the call requires was checked.
+    let found = unsafe {
+        jengpilo_round_select(
+            old.as_ptr(),
+            old.len(),
+            donor.as_ptr(),
+            donor.len(),
+            new.as_ptr(),
+            new.len(),
+            donors_of(round) as u8,
+            round.old_sums[0],
+            round.old_sums[1],
+            held,
+            first_place,
+            second_place,
+            words.as_ptr(),
+            words.len(),
+            at,
+            &mut place,
+            &mut outcome,
+            &mut next,
+        )
+    };
+    if found {
+        return Some(Choice {
+            place,
+            outcome: outcome_of(outcome),
+            next,
+        });
+    }
+    assert_eq!(
+        (place, outcome, next),
+        unwritten,
+        "a short choice wrote an answer"
+    );
+    None
+}
+
+/// How many donors the round has.
+fn donors_of(round: &Round) -> usize {
+    (0..2).filter(|&donor| round.came_here(donor) > 0).count()
+}
+
+/// What the proved function requires: every round of a fitting sheet has it.
+fn check_required(round: &Round) {
+    let largest = 1 << 20;
+    assert!((1..=largest).contains(&round.new_sum()));
+    for donor in 0..donors_of(round) {
+        let whole = u128::from(round.old_sums[donor]);
+        assert!((1..=whole).contains(&round.came_here(donor)) && whole <= largest);
+    }
+    for (donor, held) in round.held.iter().enumerate() {
+        assert!(held.map_or(true, |place| round.lifts[place].donor == Some(donor)));
+    }
+}
+
+/// The outcome of a number of the document.
+fn outcome_of(number: u32) -> Outcome {
+    match number {
+        1 => Outcome::Held,
+        2 => Outcome::Replaced,
+        3 => Outcome::Fresh,
+        _ => panic!("{number} is no outcome"),
+    }
 }

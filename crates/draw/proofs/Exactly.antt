@@ -1,7 +1,7 @@
 -- Each value comes from exactly K words: below K * b every period of b words gives it once, and from there on no word gives a value.
-use Prim.Native.Nat.{ℕ, zero, suc, _+_, _-_, _*_, _/_, _%_, _≤_, _<_}
-use mathlib.Core.Path.{_≡_, refl, ap, ap₂, _∙_}
-use mathlib.Core.List.{List, [], _∷_}
+use Prim.Native.Nat.{ℕ, _+_, _-_, _*_, _%_, _≤_, _<_}
+use mathlib.Core.Path.{_≡_, ap, ap₂, _∙_}
+use mathlib.Core.List.{[], _∷_}
 use native.Mathlib.Nat.{div-mul-le-self, le-div-iff-mul-le}
 use native.Mathlib.Omega.{arith}
 use lib.Arith.{digits-mod}

@@ -1,13 +1,36 @@
--- One law for each way out of the call.
+-- One law for each way out of the calls.
 use Prim.Native.Nat.{ℕ}
 use mathlib.Core.Path.{_≡_, refl}
 use mathlib.Core.Bool.{true, false}
+use mathlib.Core.List.{List}
+use Rattle.draw.specs.Run.{run}
 use Rattle.draw.specs.declared.Drawn.{Drawn}
 use Rattle.draw.specs.declared.Drawn.the-variants.{Value, Short}
-use Rattle.exports.specs.Reply.{Replied}
+use Rattle.round.specs.Round.{Lift}
+use Rattle.round.specs.Choice.{plan, answer}
+use Rattle.round.specs.Slices.{Callable}
+use Rattle.round.specs.declared.Donors.{Donors}
+use Rattle.round.specs.declared.Held.{Held}
+use Rattle.round.specs.declared.Selected.{Selected}
+use Rattle.round.specs.declared.Selected.the-variants.{At, Short as Ended}
+use Rattle.exports.specs.Reply.{Replied, Chose}
 
 pub replied-value : {d : Drawn} {v n x y : ℕ} → Value v n ≡ d → Replied d true x v y n
 replied-value e = rw (← e) (record { told = refl; value-written = refl; next-written = refl })
 
 pub replied-short : {d : Drawn} {x y : ℕ} → Short ≡ d → Replied d false x x y y
 replied-short e = rw (← e) (record { told = refl; value-written = refl; next-written = refl })
+
+pub chose-at : {s : Selected} {i o n x y z : ℕ} → At i o n ≡ s → Chose s true x i y o z n
+chose-at e = rw (← e) (record { told = refl; place-written = refl; outcome-written = refl; next-written = refl })
+
+pub chose-short : {s : Selected} {x y z : ℕ} → Ended ≡ s → Chose s false x x y y z z
+chose-short e = rw (← e) (record { told = refl; place-written = refl; outcome-written = refl; next-written = refl })
+
+-- what is asked of a round, and its answer, by the enums that the numbers stand for
+pub by-enums : {ds ds′ : Donors} {h h′ : Held} {ls : List Lift} → ds ≡ ds′ → h ≡ h′ → Callable ds′ ls h′ → Callable ds ls h
+by-enums e f c = rw (e, f) c
+
+pub answer-by-enums : {ds ds′ : Donors} {h h′ : Held} (ls : List Lift) (m : ℕ) (ws : List ℕ) (from : ℕ) {s : Selected} → ds ≡ ds′ → h ≡ h′
+    → s ≡ answer h (run m ws from (plan ds ls h)) → s ≡ answer h′ (run m ws from (plan ds′ ls h′))
+answer-by-enums ls m ws from e f g = rw (e, f) at g

@@ -1,9 +1,16 @@
--- A draw's answer through two numbers that the caller lends.
+-- Answers through numbers that the caller lends, and enums from numbers.
 use Prim.Native.Nat.{ℕ}
 use mathlib.Core.Path.{_≡_}
-use mathlib.Core.Bool.{Bool, true, false}
+use mathlib.Core.Bool.{Bool, true, false, cond}
+use lib.Dec.{eqb}
 use Rattle.draw.specs.declared.Drawn.{Drawn}
 use Rattle.draw.specs.declared.Drawn.the-variants.{Value, Short}
+use Rattle.round.specs.declared.Donors.{Donors}
+use Rattle.round.specs.declared.Donors.the-variants.{None, One, Two}
+use Rattle.round.specs.declared.Held.{Held}
+use Rattle.round.specs.declared.Held.the-variants.{Neither, Single, Both}
+use Rattle.round.specs.declared.Selected.{Selected}
+use Rattle.round.specs.declared.Selected.the-variants.{At, Short as Ended}
 
 -- whether there is a value
 abbrev pub isValue : Drawn → Bool
@@ -25,3 +32,35 @@ pub record Replied (d : Drawn) (answer : Bool) (value value′ next next′ : �
   pub told : answer ≡ isValue d
   pub value-written : value′ ≡ valueOr value d
   pub next-written : next′ ≡ nextOr next d
+
+-- the donors, from their count and their whole old sums
+abbrev pub donorsOf : ℕ → ℕ → ℕ → Donors
+donorsOf count first second = cond (eqb count 0) None (cond (eqb count 1) (One first) (Two first second))
+
+-- the held lifts, from their count and their places
+abbrev pub heldOf : ℕ → ℕ → ℕ → Held
+heldOf count first second = cond (eqb count 0) Neither (cond (eqb count 1) (Single first) (Both first second))
+
+-- whether there is a choice; its place, outcome and next position, or what was there before
+abbrev pub isAt : Selected → Bool
+isAt (At i o n) = true
+isAt Ended = false
+
+abbrev pub placeOr : ℕ → Selected → ℕ
+placeOr x (At i o n) = i
+placeOr x Ended = x
+
+abbrev pub outcomeOr : ℕ → Selected → ℕ
+outcomeOr x (At i o n) = o
+outcomeOr x Ended = x
+
+abbrev pub behindOr : ℕ → Selected → ℕ
+behindOr x (At i o n) = n
+behindOr x Ended = x
+
+-- the answer to a choice s, and the three numbers lent: before the call and after it
+pub record Chose (s : Selected) (answer : Bool) (place place′ outcome outcome′ next next′ : ℕ) : Type 0 where
+  pub told : answer ≡ isAt s
+  pub place-written : place′ ≡ placeOr place s
+  pub outcome-written : outcome′ ≡ outcomeOr outcome s
+  pub next-written : next′ ≡ behindOr next s

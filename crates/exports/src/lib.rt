@@ -1,7 +1,14 @@
 // The functions that the harness calls, by the C calling convention.
+ghost use mathlib.Core.Path.{_≡_};
 ghost use Rattle.draw.specs.Draw.{largest, drawAt};
-ghost use Rattle.exports.specs.Reply.{Replied};
+ghost use Rattle.draw.specs.Run.{run};
+ghost use Rattle.round.specs.Choice.{plan, answer};
+ghost use Rattle.round.specs.Slices.{lifts, Level, Callable};
+ghost use Rattle.exports.specs.Reply.{Replied, donorsOf, heldOf, Chose};
 use draw::Drawn;
+use round::Donors;
+use round::Held;
+use round::Selected;
 
 // `draw::below`: true, the value and the next position written; or false, nothing written, where the words end. A bound of 0 has no value, so every word is passed over.
 #[no_mangle]
@@ -25,5 +32,73 @@ pub extern "C" fn jengpilo_draw_below(
             true
         }
         Drawn::Short => false,
+    }
+}
+
+// The donors, from their count and their whole old sums.
+fn donors_of(count: u8, t1: u64, t2: u64) -> Donors
+    ensures { λ r. ⌜ r ≡ donorsOf count t1 t2 ⌝ }
+{
+    if count == 0 {
+        return Donors::None;
+    }
+    if count == 1 {
+        return Donors::One(t1);
+    }
+    Donors::Two(t1, t2)
+}
+
+// The held lifts, from their count and their places.
+fn held_of(count: u8, i: usize, j: usize) -> Held
+    ensures { λ r. ⌜ r ≡ heldOf count i j ⌝ }
+{
+    if count == 0 {
+        return Held::Neither;
+    }
+    if count == 1 {
+        return Held::Single(i);
+    }
+    Held::Both(i, j)
+}
+
+// `round::select`: true, the place, the outcome and the next position written; or false, nothing written, where the words end.
+#[no_mangle]
+pub extern "C" fn jengpilo_round_select(
+    old: &[u64],
+    donor: &[u8],
+    new: &[u64],
+    donors: u8,
+    t1: u64,
+    t2: u64,
+    held: u8,
+    i: usize,
+    j: usize,
+    words: &[u64],
+    at: usize,
+    place: &mut usize,
+    outcome: &mut u32,
+    next: &mut usize,
+) -> bool
+    requires { ⌜ Level (now old) (now donor) (now new) ⌝ }
+    requires { ⌜ Callable (donorsOf donors t1 t2) (lifts (now old) (now donor) (now new)) (heldOf held i j) ⌝ }
+    ensures { λ r. ⌜ Chose (answer (heldOf held i j) (run largest (now (words .entry)) at (plan (donorsOf donors t1 t2) (lifts (now (old .entry)) (now (donor .entry)) (now (new .entry))) (heldOf held i j)))) r (now (place .entry)) (now (place .exit)) (now (outcome .entry)) (now (outcome .exit)) (now (next .entry)) (now (next .exit)) ⌝ }
+{
+    let selected = round::select(
+        old,
+        donor,
+        new,
+        donors_of(donors, t1, t2),
+        held_of(held, i, j),
+        words,
+        at,
+    );
+    match selected {
+        Selected::At(p, o, n) => {
+            *place = p;
+            *outcome = o;
+            *next = n;
+            true
+        }
+        Selected::Short => false,
     }
 }

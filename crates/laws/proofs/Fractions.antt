@@ -1,6 +1,6 @@
 -- Laws of fractions. A sum is compared over one common denominator, `q ≈ n // S`, so that what is left is an equation of numerators.
 use Prim.Native.Nat.{ℕ, zero, suc, _+_, _*_, _<_}
-use mathlib.Core.Path.{_≡_, refl, sym, ap, ap₂, _∙_}
+use mathlib.Core.Path.{_≡_, refl, sym, ap, ap₂}
 use native.Mathlib.Nat.{mul-pos, mul-zero, zero-lt-suc, eq-of-mul-eq-mul-right, mul-le-mul-right, le-of-mul-le-mul-right}
 use native.Mathlib.Omega.{arith}
 use lib.Dec.{eqb, eqb·suc-zero, eqb·zero-suc, eqb·suc-suc}

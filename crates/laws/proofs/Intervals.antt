@@ -5,10 +5,10 @@ use mathlib.Core.Bool.{Bool, true, false, cond}
 use mathlib.Core.List.{List, [], _∷_}
 use native.Mathlib.Nat.{add-sub-cancel-left}
 use native.Mathlib.Omega.{arith}
-use lib.ListN.{length, getD, take}
+use lib.ListN.{length, getD}
 use lib.Dec.{ltb, eqb}
 use borrow.Author.Tests.{lt-ltb, le-ltb, ltb-true, ltb-false}
-use Rattle.laws.specs.Sum.{over, Σ, total, indicator, count}
+use Rattle.laws.specs.Sum.{over, Σ, total, indicator}
 use Rattle.laws.specs.Interval.{pick, Falls, Intervals}
 use Rattle.laws.proofs.Sums.{over-ext, Σ-const, Σ-cut, Σ-one}
 

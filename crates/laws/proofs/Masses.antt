@@ -1,19 +1,19 @@
 -- Laws of the mass of a plan. Each goes by induction over the plan: a draw's subplans share its mass evenly.
-use Prim.Native.Nat.{ℕ, zero, suc, _+_, _*_, _<_}
+use Prim.Native.Nat.{ℕ, suc, _+_, _*_, _<_}
 use mathlib.Core.Path.{_≡_, refl, sym, ap, ap₂, _∙_, fun-ext}
-use mathlib.Core.Bool.{Bool, true, false, cond}
+use mathlib.Core.Bool.{Bool, true, false}
 use mathlib.Core.List.{List, [], _∷_, _++_, map}
 use native.Mathlib.Nat.{mul-pos, mul-one, add-sub-cancel-left}
 use native.Mathlib.Omega.{arith}
 use lib.ListN.{length, getD}
 use lib.Dec.{eqb}
 use Rattle.laws.specs.Sum.{over, Σ, total, indicator}
-use Rattle.laws.specs.Interval.{pick, Intervals}
+use Rattle.laws.specs.Interval.{pick}
 use Rattle.laws.specs.Fraction.{Fraction, _//_, _⊕_, _⊗_, _≈_, _≲_, sum}
 use Rattle.laws.specs.Plan.{Plan, done, draw, after, Every, Drawable, Path, drew, paths, weight, mass, mean, Weighed}
 use Rattle.laws.proofs.Sums.{over-related, over-ext, Σ-const}
 use Rattle.laws.proofs.Intervals.{pick-here, pick-beyond, intervals}
-use Rattle.laws.proofs.Fractions.{pos-left, pos-right, ≈-refl, ≈-sym, ≈-trans, ≈-≲, ⊕-assoc, ⊕-zero, ⊕-≈, ⊕-same, ⊗-≈, ⊗-distrib, sum-≈, sum-cut, sum-const, sum-part, sum-same, sum-≲, sum-mix, sum-one}
+use Rattle.laws.proofs.Fractions.{pos-left, pos-right, ≈-refl, ≈-sym, ≈-trans, ≈-≲, ⊕-assoc, ⊕-zero, ⊕-≈, ⊗-≈, ⊗-distrib, sum-≈, sum-cut, sum-const, sum-part, sum-same, sum-≲, sum-mix, sum-one}
 
 -- ---- the list of paths and the recursion
 
@@ -94,11 +94,6 @@ pub every-after : {A B : Type 0} (P : A → Type 0) (Q : B → Type 0) (p : Plan
 unfolding Every after
 every-after P Q (done a) k d h = h a d
 every-after P Q (draw b f) k d h = (d .0, λ v l. every-after P Q (f v) k (d .1 v l) h)
-
-pub mass-mean : {A : Type 0} (t : A → Bool) (p : Plan A) → mass t p ≡ mean (λ a. indicator (t a) // 1) p
-unfolding mean mass
-mass-mean t (done a) = refl
-mass-mean t (draw b f) = ap (λ g. 1 // b ⊗ sum b g) (fun-ext (λ v. mass-mean t (f v)))
 
 -- ---- the mean by the classes of the results
 

@@ -1,9 +1,9 @@
 -- Laws of sums and of counting. Each goes by induction along the range or the list.
 use Prim.Native.Nat.{ℕ, zero, suc, _+_, _*_, _≤_, _<_}
 use mathlib.Core.Path.{_≡_, refl, sym, ap, ap₂, _∙_}
-use mathlib.Core.Bool.{Bool, true, false, cond}
-use mathlib.Core.List.{List, [], _∷_, _++_, map}
-use native.Mathlib.Nat.{add-assoc, add-comm, suc-add, zero-add, mul-one, mul-zero, one-mul, zero-mul, suc-mul}
+use mathlib.Core.Bool.{cond}
+use mathlib.Core.List.{List, [], _∷_, map}
+use native.Mathlib.Nat.{add-assoc, add-comm, suc-add, zero-add, mul-one, mul-zero, zero-mul, suc-mul}
 use native.Mathlib.Omega.{arith}
 use lib.ListN.{length, getD}
 use lib.Dec.{ltb, eqb, eqb·suc-zero, eqb·zero-suc, eqb·suc-suc}
@@ -13,42 +13,42 @@ use Rattle.laws.specs.Sum.{over, Σ, total, totalBy, indicator, count}
 -- ---- over a range
 
 -- what relates the terms relates the sums, if it relates the units and goes along with both operations
-pub over-related : {A B : Type 0} (R : A → B → Type 0) (_∘_ : A → A → A) (e : A) (_•_ : B → B → B) (e′ : B) → R e e′
-    → ((a x : A) (b y : B) → R a b → R x y → R (_∘_ a x) (_•_ b y))
-    → (n : ℕ) {f : ℕ → A} {g : ℕ → B} → ((i : ℕ) → i < n → R (f i) (g i)) → R (over _∘_ e n f) (over _•_ e′ n g)
+pub over-related : {A B : Type 0} (R : A → B → Type 0) (op : A → A → A) (e : A) (op′ : B → B → B) (e′ : B) → R e e′
+    → ((a x : A) (b y : B) → R a b → R x y → R (op a x) (op′ b y))
+    → (n : ℕ) {f : ℕ → A} {g : ℕ → B} → ((i : ℕ) → i < n → R (f i) (g i)) → R (over op e n f) (over op′ e′ n g)
 unfolding over
-over-related R _∘_ e _•_ e′ u c zero h = u
-over-related R _∘_ e _•_ e′ u c (suc n) h = c _ _ _ _ (h 0 (omega arith)) (over-related R _∘_ e _•_ e′ u c n (λ i l. h (suc i) (omega arith)))
+over-related R op e op′ e′ u c zero h = u
+over-related R op e op′ e′ u c (suc n) h = c _ _ _ _ (h 0 (omega arith)) (over-related R op e op′ e′ u c n (λ i l. h (suc i) (omega arith)))
 
-pub over-ext : {A : Type 0} (_∘_ : A → A → A) (e : A) (n : ℕ) {f g : ℕ → A} → ((i : ℕ) → i < n → f i ≡ g i) → over _∘_ e n f ≡ over _∘_ e n g
-over-ext _∘_ e n h = over-related _≡_ _∘_ e _∘_ e refl (λ a x b y p q. ap₂ _∘_ p q) n h
+pub over-ext : {A : Type 0} (op : A → A → A) (e : A) (n : ℕ) {f g : ℕ → A} → ((i : ℕ) → i < n → f i ≡ g i) → over op e n f ≡ over op e n g
+over-ext op e n h = over-related _≡_ op e op e refl (λ a x b y p q. ap₂ op p q) n h
 
-pub over-cut : {A : Type 0} (_∘_ : A → A → A) (e : A) → ((a b c : A) → _∘_ (_∘_ a b) c ≡ _∘_ a (_∘_ b c)) → ((a : A) → _∘_ e a ≡ a)
-    → (m n : ℕ) (f : ℕ → A) → over _∘_ e (m + n) f ≡ _∘_ (over _∘_ e m f) (over _∘_ e n (λ i. f (m + i)))
+pub over-cut : {A : Type 0} (op : A → A → A) (e : A) → ((a b c : A) → op (op a b) c ≡ op a (op b c)) → ((a : A) → op e a ≡ a)
+    → (m n : ℕ) (f : ℕ → A) → over op e (m + n) f ≡ op (over op e m f) (over op e n (λ i. f (m + i)))
 unfolding over
-over-cut _∘_ e assoc unit zero n f = simp zero-add (sym (unit _))
-over-cut _∘_ e assoc unit (suc m) n f = simp suc-add (ap (_∘_ (f 0)) (over-cut _∘_ e assoc unit m n (λ i. f (suc i))) ∙ sym (assoc _ _ _))
+over-cut op e assoc unit zero n f = simp zero-add (sym (unit _))
+over-cut op e assoc unit (suc m) n f = simp suc-add (ap (op (f 0)) (over-cut op e assoc unit m n (λ i. f (suc i))) ∙ sym (assoc _ _ _))
 
 -- for an operation that is commutative too
-module _ {A : Type 0} (_∘_ : A → A → A) (e : A) (assoc : (a b c : A) → _∘_ (_∘_ a b) c ≡ _∘_ a (_∘_ b c)) (comm : (a b : A) → _∘_ a b ≡ _∘_ b a) (unit : (a : A) → _∘_ e a ≡ a) where
-  middle : (a b c d : A) → _∘_ (_∘_ a b) (_∘_ c d) ≡ _∘_ (_∘_ a c) (_∘_ b d)
-  middle a b c d = assoc a b (_∘_ c d) ∙ ap (_∘_ a) (sym (assoc b c d) ∙ ap (λ x. _∘_ x d) (comm b c) ∙ assoc c b d) ∙ sym (assoc a c (_∘_ b d))
+module _ {A : Type 0} (op : A → A → A) (e : A) (assoc : (a b c : A) → op (op a b) c ≡ op a (op b c)) (comm : (a b : A) → op a b ≡ op b a) (unit : (a : A) → op e a ≡ a) where
+  middle : (a b c d : A) → op (op a b) (op c d) ≡ op (op a c) (op b d)
+  middle a b c d = assoc a b (op c d) ∙ ap (op a) (sym (assoc b c d) ∙ ap (λ x. op x d) (comm b c) ∙ assoc c b d) ∙ sym (assoc a c (op b d))
 
-  pub over-add : (n : ℕ) (f g : ℕ → A) → over _∘_ e n (λ i. _∘_ (f i) (g i)) ≡ _∘_ (over _∘_ e n f) (over _∘_ e n g)
+  pub over-add : (n : ℕ) (f g : ℕ → A) → over op e n (λ i. op (f i) (g i)) ≡ op (over op e n f) (over op e n g)
   unfolding over
   over-add zero f g = sym (unit e)
-  over-add (suc n) f g = ap (_∘_ (_∘_ (f 0) (g 0))) (over-add n (λ i. f (suc i)) (λ i. g (suc i))) ∙ middle _ _ _ _
+  over-add (suc n) f g = ap (op (op (f 0) (g 0))) (over-add n (λ i. f (suc i)) (λ i. g (suc i))) ∙ middle _ _ _ _
 
-  over-units : (n : ℕ) → over _∘_ e n (λ i. e) ≡ e
+  over-units : (n : ℕ) → over op e n (λ i. e) ≡ e
   unfolding over
   over-units zero = refl
   over-units (suc n) = unit _ ∙ over-units n
 
-  pub over-swap : (n m : ℕ) (f : ℕ → ℕ → A) → over _∘_ e n (λ i. over _∘_ e m (f i)) ≡ over _∘_ e m (λ j. over _∘_ e n (λ i. f i j))
+  pub over-swap : (n m : ℕ) (f : ℕ → ℕ → A) → over op e n (λ i. over op e m (f i)) ≡ over op e m (λ j. over op e n (λ i. f i j))
   unfolding over
   over-swap zero m f = sym (over-units m)
   over-swap (suc n) m f =
-      ap (_∘_ (over _∘_ e m (f 0))) (over-swap n m (λ i. f (suc i))) ∙ sym (over-add m (f 0) (λ j. over _∘_ e n (λ i. f (suc i) j)))
+      ap (op (over op e m (f 0))) (over-swap n m (λ i. f (suc i))) ∙ sym (over-add m (f 0) (λ j. over op e n (λ i. f (suc i) j)))
 
 pub Σ-add : (n : ℕ) (f g : ℕ → ℕ) → Σ n (λ i. f i + g i) ≡ Σ n f + Σ n g
 Σ-add = over-add _+_ 0 add-assoc add-comm zero-add
@@ -100,11 +100,6 @@ unfolding over
 Σ-term (suc n) (suc i) f l = omega (arith, Σ-term n i (λ k. f (suc k)) (omega arith))
 
 -- ---- over a list
-
-pub total-++ : (xs ys : List ℕ) → total (xs ++ ys) ≡ total xs + total ys
-unfolding total
-total-++ [] ys = omega arith
-total-++ (x ∷ xs) ys = omega (arith, total-++ xs ys)
 
 pub total-map : {A B : Type 0} (f : A → B) (g : B → ℕ) (xs : List A) → total (map g (map f xs)) ≡ total (map (λ x. g (f x)) xs)
 unfolding total

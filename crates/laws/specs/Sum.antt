@@ -4,10 +4,10 @@ use mathlib.Core.Bool.{Bool, true, false, cond}
 use mathlib.Core.List.{List, [], _∷_}
 use lib.Dec.{eqb}
 
--- f 0 ∘ (f 1 ∘ .. (f (n - 1) ∘ e)), for any operation
+-- op (f 0) (op (f 1) .. (op (f (n - 1)) e)), for any operation
 unfoldable pub over : {A : Type 0} → (A → A → A) → A → ℕ → (ℕ → A) → A
-over _∘_ e zero f = e
-over _∘_ e (suc n) f = _∘_ (f 0) (over _∘_ e n (λ i. f (suc i)))
+over op e zero f = e
+over op e (suc n) f = op (f 0) (over op e n (λ i. f (suc i)))
 
 -- f 0 + f 1 + .. + f (n - 1)
 abbrev pub Σ : ℕ → (ℕ → ℕ) → ℕ

@@ -1,14 +1,15 @@
 -- Laws of the mean over where the held lifts hang: it goes along with equality, and mixtures of mixtures can be sorted.
-use Prim.Native.Nat.{ℕ, zero, suc, _+_, _*_, _-_, _≤_, _<_}
-use mathlib.Core.Path.{_≡_, refl, sym, ap, ap₂, _∙_}
+use Prim.Native.Nat.{ℕ, _+_, _*_, _-_, _<_}
+use mathlib.Core.Path.{_≡_, ap, _∙_}
 use mathlib.Core.List.{List}
 use native.Mathlib.Nat.{mul-pos}
 use native.Mathlib.Omega.{arith}
 use lib.ListN.{length}
 use Rattle.laws.specs.Sum.{Σ}
-use Rattle.laws.specs.Fraction.{Fraction, _//_, _⊕_, _⊗_, _≈_, sum}
-use Rattle.laws.proofs.Fractions.{≈-refl, ≈-sym, ≈-trans, ⊕-≈, ⊕-same, ⊗-≈, ⊗-assoc, ⊗-distrib-right, sum-≈, sum-den, sum-same, sum-add, sum-part, sum-right, sum-mix}
-use Rattle.round.specs.Round.{Lift, liftAt, sent, U}
+use Rattle.laws.specs.Fraction.{Fraction, _//_, _⊗_, _≈_, sum}
+use Rattle.laws.proofs.Sums.{Σ-mul, Σ-map}
+use Rattle.laws.proofs.Fractions.{≈-refl, ≈-sym, ≈-trans, ≈-num, ⊕-≈, ⊕-same, ⊗-≈, ⊗-assoc, ⊗-distrib-right, sum-≈, sum-den, sum-same, sum-add, sum-part, sum-mix}
+use Rattle.round.specs.Round.{Lift, liftAt, sent, U, Sends, Donate}
 use Rattle.round.specs.Share.{Hangs, here, elsewhere, heldOf, overHangs, overHeld}
 use Rattle.round.specs.declared.Donors.{Donors}
 use Rattle.round.specs.declared.Donors.the-variants.{None, One, Two}
@@ -77,3 +78,21 @@ held-mix (Two T₁ T₂) ls p m a g u v =
     = λ x. hangs-mix 2 T₂ ls (p .1) m (λ y. a (heldOf x y)) g (λ y. u (heldOf x y)) v in
     ≈-trans (hangs-≈ 1 T₁ ls (p .0) _ (λ x. sum m (λ i. overHangs 2 T₂ ls (λ y. a (heldOf x y) i) ⊗ g i)) (λ i l. inner (here i)) (inner elsewhere))
     (hangs-mix 1 T₁ ls (p .0) m (λ x i. overHangs 2 T₂ ls (λ y. a (heldOf x y) i)) g (λ x i l. hangs-den 2 T₂ ls _ (p .1) (λ y. u (heldOf x y) i l)) v)
+
+pub sent-all : (k : ℕ) (ls : List Lift) (x : ℕ) → Σ (length ls) (λ i. sent k (liftAt ls i) * x) ≡ U k ls * x
+unfolding U
+sent-all k ls x =
+    Σ-mul (length ls) (λ i. sent k (liftAt ls i)) x ∙ ap (λ u. u * x) (Σ-map (sent k) (record { old = 0; donor = 0; new = 0 }) ls)
+
+hangs-whole : (k T : ℕ) (ls : List Lift) → Sends k T ls → (f : Hangs → Fraction) → ((x : Hangs) → f x ≈ 1 // 1) → overHangs k T ls f ≈ 1 // 1
+hangs-whole k T ls s f h =
+    let p : 0 < T = omega (arith, s .some, s .part) in
+    ≈-trans (≈-num (ap (λ u. u + (T - U k ls) * 1) (sent-all k ls 1)) (hangs-same k T ls p f {x = λ _. 1} {y = 1} {R = 1} (omega arith) (λ i _. h (here i)) (h elsewhere)))
+    (record { cross = omega (arith, s .part); left = omega arith; right = omega arith })
+
+-- all the ways in which the held lifts may hang weigh 1 together
+pub held-whole : (ds : Donors) (ls : List Lift) → Donate ds ls → overHeld ds ls (λ h. 1 // 1) ≈ 1 // 1
+unfolding overHeld
+held-whole None ls s = ≈-refl (omega arith)
+held-whole (One T) ls s = hangs-whole 1 T ls s _ (λ _. ≈-refl (omega arith))
+held-whole (Two T₁ T₂) ls s = hangs-whole 1 T₁ ls (s .0) _ (λ _. hangs-whole 2 T₂ ls (s .1) _ (λ _. ≈-refl (omega arith)))

@@ -1,6 +1,6 @@
 -- Keeping: each lift keeps the smaller of its weights, and a coupling keeps no more than a row's and a column's sum.
-use Prim.Native.Nat.{ℕ, zero, suc, _+_, _*_, _-_, _≤_, _<_, min}
-use mathlib.Core.Path.{_≡_, refl, sym, ap, ap₂, _∙_, fun-ext}
+use Prim.Native.Nat.{ℕ, _+_, _*_, _-_, _≤_, _<_, min}
+use mathlib.Core.Path.{_≡_, refl, sym, ap, _∙_, fun-ext}
 use mathlib.Core.Bool.{Bool, true, false}
 use mathlib.Core.List.{List, map}
 use native.Mathlib.Nat.{mul-pos, mul-le-mul-right, min-eq-left, add-zero}
@@ -8,22 +8,20 @@ use native.Mathlib.Omega.{arith}
 use lib.ListN.{length}
 use lib.Dec.{leb, eqb}
 use borrow.Author.Tests.{leb-true, leb-false, eqb-true, eqb-false, eq-eqb, ne-eqb}
-use Rattle.laws.specs.Sum.{over, Σ, total}
-use Rattle.laws.specs.Fraction.{Fraction, _//_, _⊕_, _⊗_, _≈_, sum}
-use Rattle.laws.specs.Plan.{Plan, after, Every, Drawable, paths, weight, mass}
+use Rattle.laws.specs.Sum.{total}
+use Rattle.laws.specs.Fraction.{_//_, _⊗_, _≈_, sum}
+use Rattle.laws.specs.Plan.{after, paths, weight, mass}
 use Rattle.laws.proofs.Sums.{over-ext, Σ-mono, Σ-mul, Σ-map, Σ-term}
-use Rattle.laws.proofs.Fractions.{≈-refl, ≈-trans, ≈-num, ⊕-same, ⊗-≈, sum-≈}
-use Rattle.laws.proofs.Masses.{weighed, mass-den}
-use Rattle.round.specs.Round.{Lift, liftAt, S, sent, U, D, oldWeight, Weight, weights, weightAt, Sends, Fitting}
+use Rattle.laws.proofs.Fractions.{≈-trans, ≈-num, ⊕-same, ⊗-≈, sum-≈}
+use Rattle.laws.proofs.Masses.{weighed}
+use Rattle.round.specs.Round.{Lift, liftAt, S, sent, U, D, oldWeight, Weight, weights, weightAt, Fitting}
 use Rattle.round.specs.Choice.{Selection, fresh, preliminary, keyfitz, select, plan, isHeld}
-use Rattle.round.specs.Share.{Hangs, here, elsewhere, heldOf, overHangs, overHeld, chooses}
+use Rattle.round.specs.Share.{overHangs, overHeld, chooses}
 use Rattle.round.specs.Keep.{kept, Coupling, tickets, keptTickets, Keeps}
-use Rattle.round.specs.declared.Donors.{Donors}
 use Rattle.round.specs.declared.Donors.the-variants.{One}
-use Rattle.round.specs.declared.Held.{Held}
 use Rattle.round.specs.declared.Held.the-variants.{Neither, Single}
 use Rattle.round.proofs.Weights.{old-sum, new-sum, one-positive}
-use Rattle.round.proofs.Keyfitz.{none, smaller, drawable, stays}
+use Rattle.round.proofs.Keyfitz.{none, smaller, stays}
 use Rattle.round.proofs.Shares.{weight-at, length-weights, every-fresh, every-update}
 
 -- ---- couplings

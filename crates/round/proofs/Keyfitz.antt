@@ -2,21 +2,20 @@
 use Prim.Native.Nat.{ℕ, zero, suc, _+_, _*_, _-_, _≤_, _<_, min}
 use mathlib.Core.Path.{_≡_, refl, sym, ap, ap₂, _∙_}
 use mathlib.Core.Bool.{Bool, true, false, cond}
-use mathlib.Core.List.{List, [], _∷_, map}
+use mathlib.Core.List.{List, map}
 use native.Mathlib.Nat.{mul-pos, min-eq-left, sub-eq-zero-of-le, zero-mul, add-zero, add-mul, zero-sub, suc-sub-suc, mul-zero}
 use native.Mathlib.Omega.{arith}
 use lib.ListN.{length, getD, List·getD-map, length-map}
 use lib.Dec.{leb, ltb, eqb}
 use borrow.Author.Tests.{leb-true, leb-false, eq-eqb}
 use Rattle.laws.specs.Sum.{Σ, total, indicator}
-use Rattle.laws.specs.Interval.{pick}
-use Rattle.laws.specs.Fraction.{Fraction, _//_, _⊗_, _≈_, sum}
+use Rattle.laws.specs.Fraction.{_//_, _⊗_, _≈_, sum}
 use Rattle.laws.specs.Plan.{Plan, done, draw, Every, Drawable, mass}
 use Rattle.laws.proofs.Sums.{over-ext, Σ-add, Σ-mul, Σ-step, Σ-one, Σ-map, map-le}
 use Rattle.laws.proofs.Fractions.{≈-refl, ⊗-≈, ⊗-part, cancel, sum-same}
 use Rattle.laws.proofs.Masses.{mass-even, mass-hits}
 use Rattle.round.specs.Round.{Weight, weightAt, growth, G}
-use Rattle.round.specs.Choice.{Selection, selection, stayOr, replacement, keyfitz}
+use Rattle.round.specs.Choice.{selection, stayOr, replacement, keyfitz}
 use Rattle.round.specs.Share.{chooses}
 use Rattle.round.proofs.Weights.{loss, losses, dropped-G}
 

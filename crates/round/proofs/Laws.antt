@@ -1,14 +1,12 @@
 -- The laws of a round's weights and draws, put together.
-use Prim.Native.Nat.{ℕ, zero, suc, _+_, _*_, _<_}
-use mathlib.Core.Path.{_≡_, sym, _∙_}
+use Prim.Native.Nat.{ℕ, zero, suc}
+use mathlib.Core.Path.{sym, _∙_}
 use mathlib.Core.Bool.{Bool, true, false, cond}
 use mathlib.Core.List.{List}
-use native.Mathlib.Omega.{arith}
 use lib.ListN.{length}
 use lib.Dec.{leb, ltb}
-use Rattle.laws.specs.Plan.{Plan, done, draw, after, Every, Drawable, Within}
-use Rattle.laws.proofs.Masses.{every-after}
-use Rattle.round.specs.Round.{Lift, S, D, Weight, weights, weightAt, Fitting}
+use Rattle.laws.specs.Plan.{Plan, done, draw, after, Drawable, Within}
+use Rattle.round.specs.Round.{Lift, Weight, weights, weightAt, Fitting}
 use Rattle.round.specs.Choice.{Preliminary, nobody, place, fresh, firstOdds, preliminary, stayOr, replacement, keyfitz, select, plan}
 use Rattle.round.specs.Slices.{Bounded, Stands}
 use Rattle.round.specs.Law.{Lawful}
@@ -17,8 +15,7 @@ use Rattle.round.specs.declared.Donors.the-variants.{None, One, Two}
 use Rattle.round.specs.declared.Held.{Held}
 use Rattle.round.specs.declared.Held.the-variants.{Neither, Single, Both}
 use Rattle.round.proofs.Weights.{old-sum, new-sum, losses, dropped-G, weight-bound, one-positive, two-positive}
-use Rattle.round.proofs.Hanging.{Inside}
-use Rattle.round.proofs.Shares.{length-weights, every-fresh, every-select, every-preliminary, Placed}
+use Rattle.round.proofs.Shares.{length-weights, every-fresh, every-plan}
 
 -- ---- at most three draws
 
@@ -55,22 +52,17 @@ three ds ls (Both i j) = λ v l. within-select ds ls (place (cond (ltb v (firstO
 
 -- ---- every draw has a value
 
-inside : (ds : Donors) (ls : List Lift) → 0 < S ls → 0 < D ds ls → (h : Held) → Inside (length ls) h → Drawable (plan ds ls h)
-unfolding plan
-inside ds ls q p h u =
-    every-after (Placed (length ls)) (λ _. Unit {0}) (preliminary ds ls h) (select ds ls) (every-preliminary ds ls (length ls) p h u) (every-select ds ls q p)
-
 drawable : (ds : Donors) (ls : List Lift) → Fitting ds ls → (h : Held) → Stands ds h (length ls) → Drawable (plan ds ls h)
 unfolding plan preliminary after select
 drawable None ls f Neither s = every-fresh ls (f .positive)
 drawable None ls f (Single i) s = absurd s
 drawable None ls f (Both i j) s = absurd s
 drawable (One T) ls f Neither s = every-fresh ls (f .positive)
-drawable (One T) ls f (Single i) s = inside (One T) ls (f .positive) (one-positive (f .donate)) (Single i) s
+drawable (One T) ls f (Single i) s = every-plan (One T) ls (f .positive) (one-positive (f .donate)) (Single i) s
 drawable (One T) ls f (Both i j) s = absurd s
 drawable (Two T₁ T₂) ls f Neither s = every-fresh ls (f .positive)
-drawable (Two T₁ T₂) ls f (Single i) s = inside (Two T₁ T₂) ls (f .positive) (two-positive (f .donate .0) (f .donate .1)) (Single i) s
-drawable (Two T₁ T₂) ls f (Both i j) s = inside (Two T₁ T₂) ls (f .positive) (two-positive (f .donate .0) (f .donate .1)) (Both i j) s
+drawable (Two T₁ T₂) ls f (Single i) s = every-plan (Two T₁ T₂) ls (f .positive) (two-positive (f .donate .0) (f .donate .1)) (Single i) s
+drawable (Two T₁ T₂) ls f (Both i j) s = every-plan (Two T₁ T₂) ls (f .positive) (two-positive (f .donate .0) (f .donate .1)) (Both i j) s
 
 pub lawful : (ds : Donors) (ls : List Lift) → Fitting ds ls → Bounded ds ls → Lawful ds ls
 lawful ds ls f b =

@@ -4,5 +4,8 @@ pub mod Hanging
 pub mod Preliminaries
 pub mod Shares
 pub mod Keeping
-pub mod Worked
 pub mod Laws
+pub mod Worked
+pub mod Walks
+pub mod Scales
+pub mod Answers

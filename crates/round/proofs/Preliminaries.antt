@@ -1,28 +1,26 @@
 -- The preliminary lift, over where the held lifts hang. With T = U + E, here and elsewhere, and two donors, the mass of a lift of donor 1 is
 -- m / T1 × (E2 / T2 + U2 / T2 × U2 × T1 / D) = m × T2 / D × (1 − E1 × E2 / (T1 × T2)): its old weight over D × S, given that a held lift is here.
-use Prim.Native.Nat.{ℕ, zero, suc, _+_, _*_, _-_, _≤_, _<_}
-use mathlib.Core.Path.{_≡_, refl, sym, ap, ap₂, _∙_}
+use Prim.Native.Nat.{ℕ, _+_, _*_, _-_, _≤_, _<_}
+use mathlib.Core.Path.{_≡_, refl, ap, ap₂, _∙_}
 use mathlib.Core.Bool.{Bool, true, false, cond}
 use mathlib.Core.List.{List}
 use native.Mathlib.Nat.{mul-pos, mul-one}
 use native.Mathlib.Omega.{arith}
 use lib.ListN.{length}
 use lib.Dec.{ltb, eqb}
-use borrow.Author.Tests.{eq-eqb, ne-eqb}
-use Rattle.laws.specs.Sum.{Σ, total, indicator}
-use Rattle.laws.specs.Fraction.{Fraction, _//_, _⊕_, _⊗_, _≈_, sum}
-use Rattle.laws.specs.Plan.{Plan, done, draw, mass}
-use Rattle.laws.proofs.Sums.{over-ext, Σ-add, Σ-mul, Σ-step, Σ-one, Σ-map}
-use Rattle.laws.proofs.Fractions.{≈-refl, ≈-sym, ≈-trans, ≈-num, ⊗-≈}
+use Rattle.laws.specs.Sum.{Σ, indicator}
+use Rattle.laws.specs.Fraction.{Fraction, _//_, _⊗_, _≈_}
+use Rattle.laws.specs.Plan.{done, draw, mass}
+use Rattle.laws.proofs.Sums.{over-ext, Σ-add, Σ-mul, Σ-step, Σ-one}
+use Rattle.laws.proofs.Fractions.{≈-refl, ≈-trans, ≈-num}
 use Rattle.laws.proofs.Masses.{mass-even}
 use Rattle.round.specs.Round.{Lift, liftAt, S, sent, U, D, oldWeight, Sends}
 use Rattle.round.specs.Choice.{Preliminary, nobody, place, preliminary, firstOdds}
-use Rattle.round.specs.Share.{Hangs, here, elsewhere, heldOf, overHangs, overHeld, comes, any}
+use Rattle.round.specs.Share.{here, elsewhere, heldOf, overHangs, overHeld}
 use Rattle.round.specs.declared.Donors.{Donors}
-use Rattle.round.specs.declared.Donors.the-variants.{None, One, Two}
+use Rattle.round.specs.declared.Donors.the-variants.{One, Two}
 use Rattle.round.specs.declared.Held.{Held}
-use Rattle.round.specs.declared.Held.the-variants.{Neither, Single, Both}
-use Rattle.round.proofs.Hanging.{hangs-same}
+use Rattle.round.proofs.Hanging.{sent-all, hangs-same}
 
 -- ---- the draw between two held lifts
 
@@ -49,12 +47,12 @@ passing : ℕ → List Lift → (ℕ → ℕ) → ℕ
 passing k ls c = Σ (length ls) (λ i. sent k (liftAt ls i) * c i)
 
 passing-mixed : (k : ℕ) (ls : List Lift) (c : ℕ → ℕ) (a b : ℕ) → Σ (length ls) (λ i. sent k (liftAt ls i) * (a + b * c i)) ≡ U k ls * a + b * passing k ls c
-unfolding passing U
+unfolding passing
 passing-mixed k ls c a b =
     let n = length ls in let s : ℕ → ℕ = λ i. sent k (liftAt ls i) in
     over-ext _+_ 0 n {g = λ i. s i * a + s i * c i * b} (λ i _. omega arith)
     ∙ Σ-add n (λ i. s i * a) (λ i. s i * c i * b)
-    ∙ ap₂ _+_ (Σ-mul n s a ∙ ap (λ u. u * a) (Σ-map (sent k) (record { old = 0; donor = 0; new = 0 }) ls)) (Σ-mul n (λ i. s i * c i) b)
+    ∙ ap₂ _+_ (sent-all k ls a) (Σ-mul n (λ i. s i * c i) b)
     ∙ omega arith
 
 two-identity : (U₁ E₁ U₂ E₂ C₁ C₂ z T₁ T₂ : ℕ) → T₁ ≡ U₁ + E₁ → T₂ ≡ U₂ + E₂
@@ -120,8 +118,8 @@ unfolding passing
 passing-only k ls i l = Σ-one (length ls) i (λ a. sent k (liftAt ls a)) l
 
 passing-all : (k : ℕ) (ls : List Lift) (x : ℕ) → passing k ls (λ a. x) ≡ U k ls * x
-unfolding passing U
-passing-all k ls x = Σ-mul (length ls) (λ i. sent k (liftAt ls i)) x ∙ ap (λ u. u * x) (Σ-map (sent k) (record { old = 0; donor = 0; new = 0 }) ls)
+unfolding passing
+passing-all = sent-all
 
 pub known-one : (T : ℕ) (ls : List Lift) → 0 < S ls → Sends 1 T ls → Known (One T) ls (U 1 ls) (T - U 1 ls) T
 unfolding D oldWeight

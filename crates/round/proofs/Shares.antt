@@ -1,21 +1,21 @@
 -- The shares: by total probability over the preliminary lift, which comes with its old weight (Preliminaries) and is updated by Keyfitz's rule (Keyfitz), or is drawn fresh.
-use Prim.Native.Nat.{ℕ, zero, suc, _+_, _*_, _-_, _≤_, _<_}
-use mathlib.Core.Path.{_≡_, refl, sym, ap, ap₂, _∙_}
+use Prim.Native.Nat.{ℕ, zero, suc, _+_, _*_, _<_}
+use mathlib.Core.Path.{_≡_, refl, sym, ap}
 use mathlib.Core.Bool.{Bool, true, false, cond}
 use mathlib.Core.List.{List, [], _∷_, map}
-use native.Mathlib.Nat.{mul-pos, add-zero}
+use native.Mathlib.Nat.{mul-pos}
 use native.Mathlib.Omega.{arith}
 use lib.ListN.{length, getD, length-map}
 use lib.Dec.{ltb, eqb}
 use borrow.Author.Tests.{lt-ltb, le-ltb, ltb-true, eq-eqb, ne-eqb}
-use Rattle.laws.specs.Sum.{over, Σ, total, indicator}
+use Rattle.laws.specs.Sum.{over, total}
 use Rattle.laws.specs.Fraction.{Fraction, _//_, _⊕_, _⊗_, _≈_, sum}
-use Rattle.laws.specs.Plan.{Plan, done, draw, after, Every, Drawable, paths, weight, mass, mean}
+use Rattle.laws.specs.Plan.{after, Every, Drawable, paths, weight, mass}
 use Rattle.laws.proofs.Sums.{over-ext}
-use Rattle.laws.proofs.Fractions.{≈-refl, ≈-sym, ≈-trans, ≈-num, ⊕-≈, ⊗-≈, ⊗-assoc, sum-≈, sum-cut, sum-part}
+use Rattle.laws.proofs.Fractions.{≈-refl, ≈-sym, ≈-trans, ⊕-≈, ⊗-≈, ⊗-assoc, sum-≈, sum-cut, sum-part}
 use Rattle.laws.proofs.Masses.{weighed, mass-after, mass-den, mass-hits, mean-classes, every-map, every-after}
-use Rattle.round.specs.Round.{Lift, liftAt, S, U, D, oldWeight, newWeight, Weight, weights, weightAt, Sends, Donate, Fitting}
-use Rattle.round.specs.Choice.{Preliminary, nobody, place, Selection, selection, fresh, preliminary, keyfitz, select, plan}
+use Rattle.round.specs.Round.{Lift, liftAt, S, D, oldWeight, newWeight, Weight, weights, weightAt, Fitting}
+use Rattle.round.specs.Choice.{Preliminary, nobody, place, selection, fresh, preliminary, keyfitz, select, plan}
 use Rattle.round.specs.Share.{overHeld, chooses, comes, any, share, preliminaryShare, Updates, Shares}
 use Rattle.round.specs.declared.Donors.{Donors}
 use Rattle.round.specs.declared.Donors.the-variants.{None, One, Two}
@@ -23,7 +23,7 @@ use Rattle.round.specs.declared.Held.{Held}
 use Rattle.round.specs.declared.Held.the-variants.{Neither, Single, Both}
 use Rattle.round.proofs.Weights.{old-sum, new-sum, one-positive, two-positive}
 use Rattle.round.proofs.Keyfitz.{drawable, updated}
-use Rattle.round.proofs.Hanging.{Inside, Sums, held-≈, held-mix}
+use Rattle.round.proofs.Hanging.{Inside, Sums, held-≈, held-mix, held-whole}
 use Rattle.round.proofs.Preliminaries.{Only, Alike, Known, known-one, known-two}
 
 -- ---- Keyfitz's update of a preliminary unit that comes with its old weight
@@ -128,6 +128,11 @@ unfolding select
 every-select ds ls q p nobody l = every-fresh ls q
 every-select ds ls q p (place i) l = every-update ds ls q p i l
 
+pub every-plan : (ds : Donors) (ls : List Lift) → 0 < S ls → 0 < D ds ls → (h : Held) → Inside (length ls) h → Drawable (plan ds ls h)
+unfolding plan
+every-plan ds ls q p h u =
+    every-after (Placed (length ls)) (λ _. Unit {0}) (preliminary ds ls h) (select ds ls) (every-preliminary ds ls (length ls) p h u) (every-select ds ls q p)
+
 module _ (ds : Donors) (ls : List Lift) (q : 0 < S ls) (p : 0 < D ds ls) (sums : Sums ds) where
   -- the mass of what follows class i
   follows : ℕ → ℕ → Fraction
@@ -161,10 +166,13 @@ module _ (ds : Donors) (ls : List Lift) (q : 0 < S ls) (p : 0 < D ds ls) (sums :
   unfolding plan
   plan-mix j h u =
       let n = length ls in let every = every-preliminary ds ls n p h u in
-      ≈-trans (weighed (chooses j) (after (preliminary ds ls h) (select ds ls)) (every-after (Placed n) (λ _. Unit {0}) (preliminary ds ls h) (select ds ls) every (every-select ds ls q p)) .agree)
+      ≈-trans (weighed (chooses j) (plan ds ls h) (every-plan ds ls q p h u) .agree)
       (rw (mass-after (chooses j) (preliminary ds ls h) (select ds ls))
       (mean-classes (class n) (λ a. mass (chooses j) (select ds ls a)) (follows j) (n + 1) (preliminary ds ls h) (follows-den j)
       (every-map {P = Placed n} {Q = λ a. (class n a < n + 1) × (mass (chooses j) (select ds ls a) ≈ follows j (class n a))} (matched j) (preliminary ds ls h) every)))
+
+  plan-whole : overHeld ds ls (λ h. weight (λ _. true) (paths (plan ds ls h))) ≈ overHeld ds ls (λ h. 1 // 1)
+  plan-whole = held-≈ ds ls sums _ _ (λ h u. weighed (λ _. true) (plan ds ls h) (every-plan ds ls q p h u) .whole)
 
   -- the mass of each class, over where the held lifts hang
   classed : ℕ → Fraction
@@ -226,14 +234,23 @@ none-shared : (ls : List Lift) → 0 < S ls → (j : ℕ) → j < length ls → 
 unfolding share overHeld plan preliminary after select
 none-shared ls q j l = ≈-trans (weighed (chooses j) (fresh ls) (every-fresh ls q) .agree) (mass-fresh ls j l q)
 
+none-whole : (ls : List Lift) → 0 < S ls → overHeld None ls (λ h. weight (λ _. true) (paths (plan None ls h))) ≈ 1 // 1
+unfolding overHeld plan preliminary after select
+none-whole ls q = weighed (λ _. true) (fresh ls) (every-fresh ls q) .whole
+
 pub shares : (ds : Donors) (ls : List Lift) → Fitting ds ls → Shares ds ls
 unfolding D
-shares None ls f = record { shares = none-shared ls (f .positive); preliminaries = λ p. absurd (omega arith) }
+shares None ls f = record {
+  shares = none-shared ls (f .positive);
+  preliminaries = λ p. absurd (omega arith);
+  whole = none-whole ls (f .positive);
+}
 shares (One T) ls f =
     let s = f .donate in let known = known-one T ls (f .positive) s in let p = one-positive s in let t : 0 < T = omega (arith, s .some, s .part) in
     record {
       shares = shared (One T) ls (f .positive) p t _ _ _ known;
       preliminaries = λ _. preliminaries (One T) ls (f .positive) p t _ _ _ known;
+      whole = ≈-trans (plan-whole (One T) ls (f .positive) p t) (held-whole (One T) ls s);
     }
 shares (Two T₁ T₂) ls f =
     let s = f .donate in let known = known-two T₁ T₂ ls (f .positive) (s .0) (s .1) in let p = two-positive (s .0) (s .1) in
@@ -241,4 +258,5 @@ shares (Two T₁ T₂) ls f =
     record {
       shares = shared (Two T₁ T₂) ls (f .positive) p t _ _ _ known;
       preliminaries = λ _. preliminaries (Two T₁ T₂) ls (f .positive) p t _ _ _ known;
+      whole = ≈-trans (plan-whole (Two T₁ T₂) ls (f .positive) p t) (held-whole (Two T₁ T₂) ls s);
     }

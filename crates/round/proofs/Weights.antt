@@ -1,13 +1,13 @@
 -- Laws of a round's weights: both sum to D × S, the growths make up for the losses, and all of it is at most 2^61.
-use Prim.Native.Nat.{ℕ, zero, suc, _+_, _-_, _*_, _^_, _≤_, _<_}
-use mathlib.Core.Path.{_≡_, refl, sym, ap, ap₂, _∙_}
+use Prim.Native.Nat.{ℕ, _+_, _-_, _*_, _^_, _≤_, _<_}
+use mathlib.Core.Path.{_≡_, refl, ap, ap₂, _∙_}
 use mathlib.Core.List.{List, [], _∷_, map}
-use native.Mathlib.Nat.{mul-pos, mul-le-mul, add-le-add}
+use native.Mathlib.Nat.{mul-pos, mul-le-mul}
 use native.Mathlib.Omega.{arith}
-use lib.ListN.{length, getD, List·getD-map, length-map}
+use lib.ListN.{length}
 use Rattle.laws.specs.Sum.{total}
 use Rattle.laws.proofs.Sums.{total-map, total-mul, total-add, map-le}
-use Rattle.round.specs.Round.{Lift, liftAt, S, sent, U, D, oldWeight, newWeight, Weight, weights, weightAt, growth, G, Sends, Donate, Fitting}
+use Rattle.round.specs.Round.{Lift, S, sent, U, D, oldWeight, newWeight, Weight, weights, weightAt, G, Sends, Donate, Fitting}
 use Rattle.round.specs.Slices.{largestSum, Bounded, SumsBounded}
 use Rattle.round.specs.declared.Donors.{Donors}
 use Rattle.round.specs.declared.Donors.the-variants.{None, One, Two}

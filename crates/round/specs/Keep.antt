@@ -10,7 +10,7 @@ use Rattle.round.specs.Round.{Lift, S, D, Weight, weights, weightAt}
 use Rattle.round.specs.Choice.{plan, isHeld}
 use Rattle.round.specs.Share.{overHeld}
 use Rattle.round.specs.declared.Donors.{Donors}
-use Rattle.round.specs.declared.Donors.the-variants.{None, One, Two}
+use Rattle.round.specs.declared.Donors.the-variants.{One}
 
 -- "what the ways weigh whose lift is held in their own marking"
 unfoldable pub kept : Donors → List Lift → Fraction

@@ -1,6 +1,5 @@
 -- What the paths of a round weigh, over where its donors' held lifts may hang ("What demand 3 weighs" of document 01, for one round).
 use Prim.Native.Nat.{ℕ, _-_, _*_, _<_}
-use mathlib.Core.Path.{_≡_}
 use mathlib.Core.Bool.{Bool, true, false}
 use mathlib.Core.List.{List}
 use lib.ListN.{length}
@@ -70,3 +69,5 @@ pub record Shares (ds : Donors) (ls : List Lift) : Type 0 where
   -- given that a held lift is here, the lift at place i is preliminary with its old weight over D × S
   pub preliminaries : 0 < D ds ls → (i : ℕ) → i < length ls
       → preliminaryShare ds ls (comes i) ≈ preliminaryShare ds ls any ⊗ oldWeight ds ls (liftAt ls i) // (D ds ls * S ls)
+  -- all paths weigh 1 together
+  pub whole : overHeld ds ls (λ h. weight (λ _. true) (paths (plan ds ls h))) ≈ 1 // 1

@@ -1,3 +1,17 @@
+// One round: which of its lifts is to carry the recorder ("One round" of document 01). The round is lent as three slices in
+// lift order: old measures, donors (1 or 2, 0 for none) and new measures.
+ghost use mathlib.Core.Path.{_≡_};
+ghost use mathlib.Core.List.{map};
+ghost use Prim.Native.Nat.{_*_, _^_, _≤_, _<_};
+ghost use lib.ListN.{length};
+ghost use Rattle.laws.specs.Interval.{pick as pickOf};
+ghost use Rattle.draw.specs.Draw.{largest};
+ghost use Rattle.draw.specs.Run.{run};
+ghost use Rattle.round.specs.Round.{U, G, growth, sent, Fitting};
+ghost use Rattle.round.specs.Choice.{firstOdds, keyfitz, plan, isHeld, outcome as outcomeOf, selection, answer};
+ghost use Rattle.round.specs.Slices.{lift, lifts, Level, multiplierOf, scaled, scaleOf, Room, Balanced, Bounded, Callable, drawGrowth};
+use draw::Drawn;
+
 // The donors of a round, with their whole old sums T.
 pub enum Donors {
     None,
@@ -23,4 +37,282 @@ pub struct Scale {
     pub new: u64,
     pub first: u64,
     pub second: u64,
+}
+
+// The multipliers with which a lift grows by its whole new measure.
+const WHOLLY: Scale = Scale {
+    new: 1,
+    first: 0,
+    second: 0,
+};
+
+// What the old measures of a donor are multiplied by.
+fn multiplier(s: Scale, donor: u8) -> u64
+    ensures { λ r. ⌜ r ≡ multiplierOf s donor ⌝ }
+{
+    if donor == 1 {
+        return s.first;
+    }
+    if donor == 2 {
+        return s.second;
+    }
+    0
+}
+
+// A lift's growth where above zero, else 0.
+fn interval(s: Scale, old: u64, donor: u8, new: u64) -> u64
+    requires { ⌜ (old * multiplierOf s donor ≤ 2 ^ 61) × (new * s .new ≤ 2 ^ 61) ⌝ }
+    ensures { λ r. ⌜ r ≡ growth (scaled s (lift old donor new)) ⌝ }
+{
+    let before = old * multiplier(s, donor);
+    let after = new * s.new;
+    if before < after {
+        return after - before;
+    }
+    0
+}
+
+// The sum of all intervals.
+fn reach(s: Scale, old: &[u64], donor: &[u8], new: &[u64]) -> u64
+    requires { ⌜ Level (now old) (now donor) (now new) ⌝ }
+    requires { ⌜ Room s (lifts (now old) (now donor) (now new)) ⌝ }
+    ensures { λ r. ⌜ r ≡ G (map (scaled s) (lifts (now (old .entry)) (now (donor .entry)) (now (new .entry)))) ⌝ }
+{
+    let mut sum: u64 = 0;
+    let mut i = 0;
+    while i < old.len() {
+        sum += interval(s, old[i], donor[i], new[i]);
+        i += 1;
+    }
+    sum
+}
+
+// The place of the lift in whose interval the position q falls.
+fn pick(s: Scale, old: &[u64], donor: &[u8], new: &[u64], q: u64) -> usize
+    requires { ⌜ Level (now old) (now donor) (now new) ⌝ }
+    requires { ⌜ Room s (lifts (now old) (now donor) (now new)) ⌝ }
+    ensures { λ r. ⌜ r ≡ pickOf (map growth (map (scaled s) (lifts (now (old .entry)) (now (donor .entry)) (now (new .entry))))) q ⌝ }
+{
+    let mut left = q;
+    let mut i = 0;
+    while i < old.len() {
+        let w = interval(s, old[i], donor[i], new[i]);
+        if left < w {
+            return i;
+        }
+        left -= w;
+        i += 1;
+    }
+    i
+}
+
+// A lift's old measure where it comes from donor k, else 0.
+fn part(old: u64, donor: u8, k: u8) -> u64
+    ensures { λ r. ⌜ r ≡ sent k (lift old donor 0) ⌝ }
+{
+    if donor == k {
+        return old;
+    }
+    0
+}
+
+// U: the part of donor k's old sum that came here.
+fn came(old: &[u64], donor: &[u8], new: &[u64], k: u8) -> u64
+    requires { ⌜ Level (now old) (now donor) (now new) ⌝ }
+    requires { ⌜ U k (lifts (now old) (now donor) (now new)) ≤ 2 ^ 61 ⌝ }
+    ensures { λ r. ⌜ r ≡ U k (lifts (now (old .entry)) (now (donor .entry)) (now (new .entry))) ⌝ }
+{
+    let mut sum: u64 = 0;
+    let mut i = 0;
+    while i < old.len() {
+        sum += part(old[i], donor[i], k);
+        i += 1;
+    }
+    sum
+}
+
+// The multipliers that give the weights of a round.
+fn scaling(old: &[u64], donor: &[u8], new: &[u64], donors: Donors) -> Scale
+    requires { ⌜ Level (now old) (now donor) (now new) ⌝ }
+    requires { ⌜ Fitting donors (lifts (now old) (now donor) (now new)) ⌝ }
+    requires { ⌜ Bounded donors (lifts (now old) (now donor) (now new)) ⌝ }
+    ensures { λ r. ⌜ r ≡ scaleOf donors (lifts (now (old .entry)) (now (donor .entry)) (now (new .entry))) ⌝ }
+{
+    match donors {
+        Donors::None => Scale {
+            new: 0,
+            first: 0,
+            second: 0,
+        },
+        Donors::One(_) => {
+            let s = reach(WHOLLY, old, donor, new);
+            let u = came(old, donor, new, 1);
+            Scale {
+                new: u,
+                first: s,
+                second: 0,
+            }
+        }
+        Donors::Two(t1, t2) => {
+            let s = reach(WHOLLY, old, donor, new);
+            let u1 = came(old, donor, new, 1);
+            let u2 = came(old, donor, new, 2);
+            Scale {
+                new: u1 * t2 + u2 * t1,
+                first: t2 * s,
+                second: t1 * s,
+            }
+        }
+    }
+}
+
+// U2 × T1: how many of the values below D make donor 1's lift preliminary.
+fn first_odds(old: &[u64], donor: &[u8], new: &[u64], donors: Donors) -> u64
+    requires { ⌜ Level (now old) (now donor) (now new) ⌝ }
+    requires { ⌜ Fitting donors (lifts (now old) (now donor) (now new)) ⌝ }
+    requires { ⌜ Bounded donors (lifts (now old) (now donor) (now new)) ⌝ }
+    ensures { λ r. ⌜ r ≡ firstOdds donors (lifts (now (old .entry)) (now (donor .entry)) (now (new .entry))) ⌝ }
+{
+    match donors {
+        Donors::None => 0,
+        Donors::One(_) => 0,
+        Donors::Two(t1, _) => came(old, donor, new, 2) * t1,
+    }
+}
+
+// Whether the lift at a place is held.
+fn is_held(held: Held, place: usize) -> bool
+    ensures { λ r. ⌜ r ≡ isHeld held place ⌝ }
+{
+    match held {
+        Held::Neither => false,
+        Held::Single(a) => a == place,
+        Held::Both(a, b) => a == place || b == place,
+    }
+}
+
+// The document's outcome of a choice.
+fn outcome(held: Held, place: usize, dropped: bool) -> u32
+    ensures { λ r. ⌜ r ≡ outcomeOf held (selection place dropped) ⌝ }
+{
+    if is_held(held, place) {
+        return 1;
+    }
+    if dropped {
+        return 2;
+    }
+    3
+}
+
+// A draw below the sum of all intervals picks the lift in whose interval it falls.
+fn draw_lift(
+    s: Scale,
+    old: &[u64],
+    donor: &[u8],
+    new: &[u64],
+    held: Held,
+    dropped: bool,
+    words: &[u64],
+    at: usize,
+) -> Selected
+    requires { ⌜ Level (now old) (now donor) (now new) ⌝ }
+    requires { ⌜ Room s (lifts (now old) (now donor) (now new)) ⌝ }
+    requires { ⌜ 1 ≤ G (map (scaled s) (lifts (now old) (now donor) (now new))) ⌝ }
+    ensures { λ r. ⌜ r ≡ answer held (run largest (now (words .entry)) at (drawGrowth dropped (map (scaled s) (lifts (now (old .entry)) (now (donor .entry)) (now (new .entry)))))) ⌝ }
+{
+    let bound = reach(s, old, donor, new);
+    match draw::below(words, at, bound) {
+        Drawn::Value(q, next) => {
+            let place = pick(s, old, donor, new, q);
+            Selected::At(place, outcome(held, place, dropped), next)
+        }
+        Drawn::Short => Selected::Short,
+    }
+}
+
+// Keyfitz's update of the preliminary lift at place i.
+fn update(
+    s: Scale,
+    old: &[u64],
+    donor: &[u8],
+    new: &[u64],
+    held: Held,
+    i: usize,
+    words: &[u64],
+    at: usize,
+) -> Selected
+    requires { ⌜ Level (now old) (now donor) (now new) ⌝ }
+    requires { ⌜ Room s (lifts (now old) (now donor) (now new)) ⌝ }
+    requires { ⌜ Balanced s (lifts (now old) (now donor) (now new)) ⌝ }
+    requires { ⌜ i < length (now old) ⌝ }
+    ensures { λ r. ⌜ r ≡ answer held (run largest (now (words .entry)) at (keyfitz (map (scaled s) (lifts (now (old .entry)) (now (donor .entry)) (now (new .entry)))) i)) ⌝ }
+{
+    let before = old[i] * multiplier(s, donor[i]);
+    let after = new[i] * s.new;
+    if before <= after {
+        return Selected::At(i, outcome(held, i, false), at);
+    }
+    match draw::below(words, at, before) {
+        Drawn::Value(r, next) => {
+            if r < after {
+                Selected::At(i, outcome(held, i, false), next)
+            } else {
+                draw_lift(s, old, donor, new, held, true, words, next)
+            }
+        }
+        Drawn::Short => Selected::Short,
+    }
+}
+
+// The choice of a round that both donors' held lifts are in: donor 1's at place i, donor 2's at place j.
+fn select_of_two(
+    old: &[u64],
+    donor: &[u8],
+    new: &[u64],
+    donors: Donors,
+    i: usize,
+    j: usize,
+    words: &[u64],
+    at: usize,
+) -> Selected
+    requires { ⌜ Level (now old) (now donor) (now new) ⌝ }
+    requires { ⌜ Callable donors (lifts (now old) (now donor) (now new)) (Held.Both i j) ⌝ }
+    ensures { λ r. ⌜ r ≡ answer (Held.Both i j) (run largest (now (words .entry)) at (plan donors (lifts (now (old .entry)) (now (donor .entry)) (now (new .entry))) (Held.Both i j))) ⌝ }
+{
+    let held = Held::Both(i, j);
+    let s = scaling(old, donor, new, donors);
+    match draw::below(words, at, s.new) {
+        Drawn::Value(v, next) => {
+            if v < first_odds(old, donor, new, donors) {
+                update(s, old, donor, new, held, i, words, next)
+            } else {
+                update(s, old, donor, new, held, j, words, next)
+            }
+        }
+        Drawn::Short => Selected::Short,
+    }
+}
+
+// The choice of a round, from its held lifts and the random words from position `at` on.
+pub fn select(
+    old: &[u64],
+    donor: &[u8],
+    new: &[u64],
+    donors: Donors,
+    held: Held,
+    words: &[u64],
+    at: usize,
+) -> Selected
+    requires { ⌜ Level (now old) (now donor) (now new) ⌝ }
+    requires { ⌜ Callable donors (lifts (now old) (now donor) (now new)) held ⌝ }
+    ensures { λ r. ⌜ r ≡ answer held (run largest (now (words .entry)) at (plan donors (lifts (now (old .entry)) (now (donor .entry)) (now (new .entry))) held)) ⌝ }
+{
+    match held {
+        Held::Neither => draw_lift(WHOLLY, old, donor, new, held, false, words, at),
+        Held::Single(i) => {
+            let s = scaling(old, donor, new, donors);
+            update(s, old, donor, new, held, i, words, at)
+        }
+        Held::Both(i, j) => select_of_two(old, donor, new, donors, i, j, words, at),
+    }
 }

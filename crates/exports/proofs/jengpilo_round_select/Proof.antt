@@ -1,0 +1,44 @@
+-- `exports::jengpilo_round_select` meets its contract: what `select` ensures, by the two cases of its answer. Assumes nothing.
+use borrow.Author.Needs.{needs}
+use mathlib.Core.Path.{sym, _∙_}
+use Rattle.draw.specs.Draw.{largest}
+use Rattle.exports.proofs.Replies.{chose-at, chose-short, by-enums, answer-by-enums}
+use Rattle.exports.proofs.jengpilo_round_select.Statement.{statement}
+use Rattle.exports.proofs.jengpilo_round_select.Tie as tie
+
+donors-of-requires : tie.Need-donors-of-requires
+donors-of-requires c κs = search needs
+
+held-of-requires : tie.Need-held-of-requires
+held-of-requires c κs = search needs
+
+select-requires : tie.Need-select-requires
+select-requires c κs = let p = c .before .before .before .before .before .before .pre in (p .0, by-enums (c .before .donors-of .ensures) (c .held-of .ensures) (p .1))
+
+enum-known-selected : tie.Need-enum-known-selected
+enum-known-selected c = search needs
+
+enum-told : tie.Need-enum-told
+enum-told c = search needs
+
+returns : tie.Need-returns
+returns c =
+    let b = c .before .before .before in
+    chose-at (sym (c .before .selected .given .1) ∙ answer-by-enums _ largest _ _ (b .before .before .donors-of .ensures) (b .before .held-of .ensures) (b .select .ensures))
+
+returns-2 : tie.Need-returns-2
+returns-2 c =
+    let b = c .before .before in
+    chose-short (sym (c .enum-told .given .1) ∙ answer-by-enums _ largest _ _ (b .before .before .donors-of .ensures) (b .before .held-of .ensures) (b .select .ensures))
+
+pub jengpilo-round-select-spec : {M : Type 1} → statement M
+jengpilo-round-select-spec =
+    tie.close
+    (tie.spec
+    donors-of-requires
+    held-of-requires
+    select-requires
+    enum-known-selected
+    enum-told
+    returns
+    returns-2)

@@ -1,0 +1,150 @@
+-- The loops over a round lent as slices: each keeps what it has together with what is left of the round.
+use Prim.Native.Nat.{ℕ, zero, suc, _+_, _*_, _-_, _^_, _≤_, _<_}
+use mathlib.Core.Path.{_≡_, refl, sym, ap, ap₂}
+use mathlib.Core.List.{List, [], _∷_, map, map-map}
+use native.Mathlib.Numerals.{add-one}
+use native.Mathlib.Omega.{arith}
+use lib.ListN.{length, getD, drop, drop-of-length-le, length-map, List·getD-map}
+use lib.Seq.{drop-cons}
+use mir.Val.{Fits}
+use mir.Syntax.{w64}
+use Rattle.laws.specs.Sum.{total}
+use Rattle.laws.specs.Interval.{pick}
+use Rattle.laws.proofs.Sums.{total-map, map-le}
+use Rattle.laws.proofs.Intervals.{pick-here, pick-beyond}
+use Rattle.round.specs.Round.{Lift, liftAt, Weight, weightAt, growth, G}
+use Rattle.round.specs.Slices.{lift, lifts, Level, multiplierOf, scaled, Room, Balanced}
+use Rattle.round.specs.declared.Scale.{Scale}
+use Rattle.round.proofs.Weights.{dropped-G}
+
+-- ---- the lifts of the slices
+
+tail : {m d b : ℕ} {ms ds bs : List ℕ} → Level (m ∷ ms) (d ∷ ds) (b ∷ bs) → Level ms ds bs
+tail l = record { donors = omega (arith, l .donors); news = omega (arith, l .news) }
+
+pub lifts-length : {ms ds bs : List ℕ} → Level ms ds bs → length (lifts ms ds bs) ≡ length ms
+unfolding lifts
+lifts-length {ms = []} l = refl
+lifts-length {ms = m ∷ ms} {ds = []} l = omega (arith, l .donors)
+lifts-length {ms = m ∷ ms} {ds = d ∷ ds} {bs = []} l = omega (arith, l .news)
+lifts-length {ms = m ∷ ms} {ds = d ∷ ds} {bs = b ∷ bs} l = ap suc (lifts-length (tail l))
+
+lifts-at : {ms ds bs : List ℕ} → Level ms ds bs → (i : ℕ) → i < length ms → liftAt (lifts ms ds bs) i ≡ lift (getD ms i 0) (getD ds i 0) (getD bs i 0)
+unfolding lifts
+lifts-at {ms = []} l i h = absurd (omega arith)
+lifts-at {ms = m ∷ ms} {ds = []} l i h = absurd (omega (arith, l .donors))
+lifts-at {ms = m ∷ ms} {ds = d ∷ ds} {bs = []} l i h = absurd (omega (arith, l .news))
+lifts-at {ms = m ∷ ms} {ds = d ∷ ds} {bs = b ∷ bs} l zero h = refl
+lifts-at {ms = m ∷ ms} {ds = d ∷ ds} {bs = b ∷ bs} l (suc i) h = lifts-at (tail l) i (omega arith)
+
+-- what is left at i begins with the lift at i
+left-cons : {ms ds bs : List ℕ} → Level ms ds bs → (i : ℕ) → i < length ms
+    → drop i (lifts ms ds bs) ≡ lift (getD ms i 0) (getD ds i 0) (getD bs i 0) ∷ drop (i + 1) (lifts ms ds bs)
+left-cons {ms} {ds} {bs} l i h =
+    let k : i < length (lifts ms ds bs) = rw (lifts-length l) h in
+    rw (drop-cons (lifts ms ds bs) i (lift 0 0 0) k, lifts-at l i h, add-one)
+
+left-none : {ms ds bs : List ℕ} → Level ms ds bs → {i : ℕ} → length ms ≤ i → drop i (lifts ms ds bs) ≡ []
+left-none {ms} {ds} {bs} l {i} h = drop-of-length-le (lifts ms ds bs) {i = i} (rw (lifts-length l) h)
+
+-- ---- a sum over the lifts
+
+-- the sum so far and f of the lifts from i on are the whole sum
+pub record Summed (f : Lift → ℕ) (ls : List Lift) (whole sum i : ℕ) : Type 0 where
+  pub same : sum + total (map f (drop i ls)) ≡ whole
+
+pub sum-none : {f : Lift → ℕ} {ls : List Lift} {whole : ℕ} → total (map f ls) ≡ whole → Summed f ls whole 0 0
+sum-none e = record { same = omega arith }
+
+module _ {f : Lift → ℕ} {ms ds bs : List ℕ} {whole sum i : ℕ} (l : Level ms ds bs) where
+  grown : {w : ℕ} → i < length ms → w ≡ f (lift (getD ms i 0) (getD ds i 0) (getD bs i 0)) → Summed f (lifts ms ds bs) whole sum i
+      → sum + w + total (map f (drop (i + 1) (lifts ms ds bs))) ≡ whole
+  unfolding total
+  grown h e d = rw e (omega (arith, rw (left-cons l i h) at (d .same)))
+
+  pub sum-turn : {w : ℕ} → i < length ms → w ≡ f (lift (getD ms i 0) (getD ds i 0) (getD bs i 0)) → Summed f (lifts ms ds bs) whole sum i
+      → Summed f (lifts ms ds bs) whole (sum + w) (i + 1)
+  sum-turn h e d = record { same = grown h e d }
+
+  pub sum-room : {w : ℕ} → i < length ms → w ≡ f (lift (getD ms i 0) (getD ds i 0) (getD bs i 0)) → Summed f (lifts ms ds bs) whole sum i → sum + w ≤ whole
+  sum-room h e d = omega (arith, grown h e d)
+
+  pub sum-end : length ms ≤ i → Summed f (lifts ms ds bs) whole sum i → sum ≡ whole
+  unfolding total
+  sum-end h d = omega (arith, rw (left-none l h) at (d .same))
+
+-- ---- the place in whose interval a position falls
+
+-- from i on, what is left of the position falls in the interval of the place sought
+pub record Sought (f : Lift → ℕ) (ls : List Lift) (place left i : ℕ) : Type 0 where
+  pub same : i + pick (map f (drop i ls)) left ≡ place
+
+seek-none : {f : Lift → ℕ} {ls : List Lift} {place q : ℕ} → pick (map f ls) q ≡ place → Sought f ls place q 0
+seek-none e = record { same = omega arith }
+
+module _ {f : Lift → ℕ} {ms ds bs : List ℕ} {place left i : ℕ} (l : Level ms ds bs) where
+  pub seek-turn : {w : ℕ} → i < length ms → w ≡ f (lift (getD ms i 0) (getD ds i 0) (getD bs i 0)) → w ≤ left → Sought f (lifts ms ds bs) place left i
+      → Sought f (lifts ms ds bs) place (left - w) (i + 1)
+  seek-turn h e k d = record { same = rw e (omega (arith, rw (left-cons l i h, pick-beyond _ _ left (rw e at k)) at (d .same))) }
+
+  pub seek-here : {w : ℕ} → i < length ms → w ≡ f (lift (getD ms i 0) (getD ds i 0) (getD bs i 0)) → left < w → Sought f (lifts ms ds bs) place left i → i ≡ place
+  seek-here h e k d = omega (arith, rw (left-cons l i h, pick-here _ _ left (rw e at k)) at (d .same))
+
+  pub seek-end : length ms ≤ i → Sought f (lifts ms ds bs) place left i → i ≡ place
+  unfolding pick
+  seek-end h d = omega (arith, rw (left-none l h) at (d .same))
+
+-- ---- the growths of the lifts
+
+-- a lift's growth by the multipliers
+abbrev pub grows : Scale → Lift → ℕ
+grows s l = growth (scaled s l)
+
+grows-map : (s : Scale) (ls : List Lift) → map (grows s) ls ≡ map growth (map (scaled s) ls)
+grows-map s ls = sym (map-map growth (scaled s) ls)
+
+pub reach-none : (s : Scale) (ls : List Lift) → Summed (grows s) ls (G (map (scaled s) ls)) 0 0
+unfolding G
+reach-none s ls = sum-none (ap total (grows-map s ls))
+
+pub pick-none : (s : Scale) (ls : List Lift) (q : ℕ) → Sought (grows s) ls (pick (map growth (map (scaled s) ls)) q) q 0
+pick-none s ls q = seek-none (ap (λ ns. pick ns q) (grows-map s ls))
+
+-- ---- room
+
+G-le : (ws : List Weight) → G ws ≤ total (map (λ w. w .new) ws)
+unfolding G total
+G-le [] = omega arith
+G-le (w ∷ ws) = omega (arith, G-le ws)
+
+pub G-room : {s : Scale} {ls : List Lift} → Room s ls → G (map (scaled s) ls) ≤ 2 ^ 61
+G-room {s} {ls} r = omega (arith, G-le (map (scaled s) ls), total-map (scaled s) (λ w. w .new) ls, r .news)
+
+-- ---- the weights of the lift at i
+
+none-scaled : (s : Scale) → _≡_ {A = Weight} (record { old = 0; new = 0 }) (scaled s (lift 0 0 0))
+none-scaled s = ap₂ (λ m b. record { old = m; new = b }) (omega arith) (omega arith)
+
+module _ (s : Scale) {ms ds bs : List ℕ} (l : Level ms ds bs) (i : ℕ) (h : i < length ms) where
+  part-le : (f : Lift → ℕ) → f (lift (getD ms i 0) (getD ds i 0) (getD bs i 0)) ≤ total (map f (lifts ms ds bs))
+  part-le f = rw (← lifts-at l i h) (map-le f (lift 0 0 0) (lifts ms ds bs) i (rw (lifts-length l) h))
+
+  pub old-room : Room s (lifts ms ds bs) → getD ms i 0 * multiplierOf s (getD ds i 0) ≤ 2 ^ 61
+  old-room r = omega (arith, part-le (λ x. scaled s x .old), r .olds)
+
+  pub new-room : Room s (lifts ms ds bs) → getD bs i 0 * s .new ≤ 2 ^ 61
+  new-room r = omega (arith, part-le (λ x. scaled s x .new), r .news)
+
+  module _ {x : ℕ} (e : x ≡ multiplierOf s (getD ds i 0)) where
+    pub old-fits : Room s (lifts ms ds bs) → Fits w64 (getD ms i 0 * x)
+    old-fits r = rw e (omega (arith, old-room r))
+
+    pub weight-at : weightAt (map (scaled s) (lifts ms ds bs)) i ≡ record { old = getD ms i 0 * x; new = getD bs i 0 * s .new }
+    weight-at = rw (e, none-scaled s, List·getD-map (scaled s) (lifts ms ds bs) i (lift 0 0 0), lifts-at l i h)
+
+    -- where the lift may be dropped, another grows
+    pub moves-G : Balanced s (lifts ms ds bs) → getD bs i 0 * s .new < getD ms i 0 * x → 1 ≤ G (map (scaled s) (lifts ms ds bs))
+    moves-G b k =
+        let ls = lifts ms ds bs in
+        dropped-G (map (scaled s) ls) i (rw (total-map (scaled s) (λ w. w .old) ls, total-map (scaled s) (λ w. w .new) ls) (b .sums))
+        (rw (length-map, lifts-length l) h) (rw weight-at k)

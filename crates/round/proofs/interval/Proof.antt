@@ -1,0 +1,29 @@
+-- `round::interval` meets its contract: both products have room, and the growth is their difference or 0. Assumes nothing.
+use native.Mathlib.Omega.{arith}
+use borrow.Author.Needs.{needs}
+use Prim.Native.Nat.{_*_}
+use mathlib.Core.Path.{ap}
+use Rattle.round.proofs.interval.Statement.{statement}
+use Rattle.round.proofs.interval.Tie as tie
+
+multiplier-requires : tie.Need-multiplier-requires
+multiplier-requires c κs = search needs
+
+mul-before : tie.Need-mul-before
+mul-before c = omega (arith, ap (λ x. c .before .args .old * x) (c .multiplier .ensures))
+
+mul-after : tie.Need-mul-after
+mul-after c = search needs
+
+sub-result : tie.Need-sub-result
+sub-result c = search needs
+
+returns : tie.Need-returns
+returns c = rw (c .before .before .multiplier .ensures)
+
+returns-2 : tie.Need-returns-2
+returns-2 c = omega (arith, ap (λ x. c .before .before .before .args .old * x) (c .before .before .multiplier .ensures))
+
+pub interval-spec : {M : Type 1} → statement M
+interval-spec =
+    tie.close (tie.spec multiplier-requires mul-before mul-after sub-result returns returns-2)

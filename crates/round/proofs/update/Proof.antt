@@ -1,0 +1,84 @@
+-- `round::update` meets its contract: one law for each way out; where the lift may be dropped, the growths have a sum above 0. Assumes nothing.
+use native.Mathlib.Omega.{arith}
+use borrow.Author.Needs.{needs}
+use Rattle.round.proofs.Walks.{old-fits, new-room, moves-G}
+use Rattle.round.proofs.Answers.{stays, kept, moved, update-short}
+use Rattle.round.proofs.update.Statement.{statement}
+use Rattle.round.proofs.update.Tie as tie
+
+mul-before : tie.Need-mul-before
+mul-before c = search needs
+
+shared-slice-read-before : tie.Need-shared-slice-read-before
+shared-slice-read-before c = search needs
+
+shared-slice-read-multiplier : tie.Need-shared-slice-read-multiplier
+shared-slice-read-multiplier c = search needs
+
+multiplier-requires : tie.Need-multiplier-requires
+multiplier-requires c κs = search needs
+
+mul-before-2 : tie.Need-mul-before-2
+mul-before-2 c = search old-fits
+
+mul-after : tie.Need-mul-after
+mul-after c = search needs
+
+shared-slice-read-after : tie.Need-shared-slice-read-after
+shared-slice-read-after c = search needs
+
+mul-after-2 : tie.Need-mul-after-2
+mul-after-2 c = let p = c .before .before .before .before .before .before .before .before .before .pre in omega (arith, new-room _ (p .0) _ (p .1 .1 .1) (p .1 .0))
+
+outcome-requires : tie.Need-outcome-requires
+outcome-requires c κs = search needs
+
+returns : tie.Need-returns
+returns c = let p = c .before .before .before .before .before .before .before .before .before .before .before .pre in search (stays, p .0, p .1 .1 .1, c .before .before .before .before .multiplier .ensures, c .before .if1 .taken, c .outcome .ensures)
+
+below-requires : tie.Need-below-requires
+below-requires c κs = search needs
+
+enum-known-r : tie.Need-enum-known-r
+enum-known-r c = search needs
+
+outcome-requires-2 : tie.Need-outcome-requires-2
+outcome-requires-2 c κs = search needs
+
+draw-lift-requires : tie.Need-draw-lift-requires
+draw-lift-requires c κs = let p = c .before .before .before .before .before .before .before .before .before .before .before .before .before .before .before .pre in (p .0, (p .1 .0, moves-G _ (p .0) _ (p .1 .1 .1) (c .before .before .before .before .before .before .before .before .multiplier .ensures) (p .1 .1 .0) (c .before .before .before .before .before .if1 .left)))
+
+enum-told : tie.Need-enum-told
+enum-told c = search needs
+
+returns-2 : tie.Need-returns-2
+returns-2 c = let p = c .before .before .before .before .before .before .before .before .before .before .before .before .before .before .before .before .pre in search (kept, p .0, p .1 .1 .1, c .before .before .before .before .before .before .before .before .before .multiplier .ensures, c .before .before .before .before .before .before .if1 .left, c .before .before .before .before .before .below .ensures .0, c .before .before .before .r .given .1, c .before .if2 .taken, c .outcome2 .ensures)
+
+returns-3 : tie.Need-returns-3
+returns-3 c = search moved
+
+returns-4 : tie.Need-returns-4
+returns-4 c = search update-short
+
+pub update-spec : {M : Type 1} → statement M
+update-spec =
+    tie.close
+    (tie.spec
+    mul-before
+    shared-slice-read-before
+    shared-slice-read-multiplier
+    multiplier-requires
+    mul-before-2
+    mul-after
+    shared-slice-read-after
+    mul-after-2
+    outcome-requires
+    returns
+    below-requires
+    enum-known-r
+    outcome-requires-2
+    draw-lift-requires
+    enum-told
+    returns-2
+    returns-3
+    returns-4)

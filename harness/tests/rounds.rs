@@ -1,0 +1,318 @@
+//! Compares the archive's choice of one round with the reference: the document's cases and seeded rounds. The reference's shares are exact.
+
+use harness::archive;
+use harness::reference::{choose, choose_by, Choice, Lift, Outcome, Round};
+use harness::seeded::Seeded;
+use std::collections::BTreeMap;
+use std::iter;
+
+/// A lift's donor (0 for none), old measure and new measure.
+type LiftRow = (usize, u64, u64);
+
+/// A bound asked for and the value given.
+type Drawn = (u128, u128);
+
+/// A round of such lifts.
+fn round(rows: &[LiftRow], old_sums: [u64; 2], held: [Option<usize>; 2]) -> Round {
+    let lift = |&(donor, old_measure, new_measure): &LiftRow| Lift {
+        donor: donor.checked_sub(1),
+        old_measure,
+        new_measure,
+    };
+    let lifts = rows.iter().map(lift).collect();
+    Round {
+        lifts,
+        old_sums,
+        held,
+    }
+}
+
+/// A choice on which archive and reference agree.
+fn agreed(round: &Round, words: &[u64], at: usize) -> Option<Choice> {
+    let expected = choose(round, words, at);
+    let proved = archive::select(round, words, at);
+    assert_eq!(proved, expected, "{round:?} from {words:?} at {at}");
+    expected
+}
+
+/// Checks a case: the bounds asked for, the choice, and that one word fewer is too few.
+fn check(name: &str, round: &Round, draws: &[Drawn], place: usize, outcome: Outcome) {
+    let mut left = draws.iter();
+    let chosen = choose_by(round, &mut |bound| {
+        let &(expected, value) = left.next()?;
+        assert_eq!(bound, expected, "{name}");
+        Some(value)
+    });
+    assert_eq!(chosen, Some((place, outcome)), "{name}");
+
+    let words: Vec<u64> = draws.iter().map(|&(_, value)| value as u64).collect();
+    let choice = agreed(round, &words, 0).expect("the words suffice");
+    let (chosen, next) = ((choice.place, choice.outcome), choice.next);
+    assert_eq!((chosen, next), ((place, outcome), words.len()), "{name}");
+    if let Some((_, fewer)) = words.split_last() {
+        assert_eq!(agreed(round, fewer, 0), None, "{name}");
+    }
+}
+
+#[test]
+fn worked_cases() {
+    use Outcome::{Fresh, Held, Replaced};
+    let three = [(1, 2, 4), (1, 3, 1), (1, 5, 5)];
+    let held_12 = round(&three, [10, 0], [Some(1), None]);
+    let held_13 = round(&three, [10, 0], [Some(2), None]);
+    check("M1", &held_12, &[(30, 9)], 1, Held);
+    check("M2", &held_12, &[(30, 10), (20, 0)], 0, Replaced);
+    check("M3", &held_13, &[], 2, Held);
+
+    let two = [(1, 1, 1), (2, 3, 1)];
+    let both = round(&two, [4, 6], [Some(0), Some(1)]);
+    let neither = round(&two, [4, 6], [None, None]);
+    let only_22 = round(&two, [4, 6], [None, Some(1)]);
+    check("M6", &both, &[(18, 11)], 0, Held);
+    check("M7", &both, &[(18, 12), (24, 17)], 1, Held);
+    check("M8", &both, &[(18, 12), (24, 18), (6, 5)], 0, Held);
+    check("M9", &neither, &[(2, 1)], 1, Fresh);
+    check("M10", &only_22, &[(24, 18), (6, 0)], 0, Replaced);
+
+    let no_chance = round(&[(1, 3, 0), (1, 7, 1)], [10, 0], [Some(0), None]);
+    for (r, q) in (0..3).flat_map(|r| (0..3).map(move |q| (r, q))) {
+        check("M11", &no_chance, &[(3, r), (3, q)], 1, Replaced);
+    }
+}
+
+/// Splits a sum at random into so many parts, some of them 0.
+fn split(seeded: &mut Seeded, sum: u64, parts: usize) -> Vec<u64> {
+    let mut cuts: Vec<u64> = (1..parts).map(|_| seeded.below(sum + 1)).collect();
+    cuts.extend([0, sum]);
+    cuts.sort_unstable();
+    cuts.windows(2).map(|pair| pair[1] - pair[0]).collect()
+}
+
+/// A sum of a round's measures: the largest, small, or any.
+fn round_sum(seeded: &mut Seeded) -> u64 {
+    match seeded.below(4) {
+        0 => 1 << 20,
+        1 => 1 + seeded.below(12),
+        _ => 1 + seeded.below(1 << 20),
+    }
+}
+
+/// A round with up to so many donors, of sums up to the largest, with held lifts here or elsewhere.
+fn any_round(seeded: &mut Seeded, donors: usize) -> Round {
+    let count = 1 + seeded.index(9);
+    let new_sum = round_sum(seeded);
+    let new_measures = split(seeded, new_sum, count);
+    let came: Vec<Vec<u64>> = (0..donors)
+        .map(|_| {
+            let (sum, elsewhere) = (round_sum(seeded), seeded.index(3));
+            split(seeded, sum, count + elsewhere)
+        })
+        .collect();
+    let row = |place: usize| match seeded.index(donors + 1) {
+        0 => (0, 0, new_measures[place]),
+        donor if came[donor - 1][place] == 0 => (0, 0, new_measures[place]),
+        donor => (donor, came[donor - 1][place], new_measures[place]),
+    };
+    let rows: Vec<LiftRow> = (0..count).map(row).collect();
+    let mut any = round(&rows, [0, 0], [None, None]);
+    for donor in 0..donors {
+        let here = any.came_here(donor) as u64;
+        let rest = (1 << 20) - here;
+        any.old_sums[donor] = match seeded.below(3) {
+            0 => here,
+            1 => 1 << 20,
+            _ => here + seeded.below(rest + 1),
+        };
+        let sent: Vec<usize> = (0..count)
+            .filter(|&place| rows[place].0 == donor + 1)
+            .collect();
+        let held = seeded.index(2 * sent.len() + 1);
+        any.held[donor] = sent.get(held / 2).copied();
+    }
+    any
+}
+
+/// Words that give a round's draws the least value, the greatest or any, some words passed over between them, and where each draw's words end.
+fn words_for(seeded: &mut Seeded, round: &Round, words: &mut Vec<u64>) -> Vec<usize> {
+    let mut ends = Vec::new();
+    let chosen = choose_by(round, &mut |bound| {
+        let bound = bound as u64;
+        let value = match seeded.below(3) {
+            0 => 0,
+            1 => bound - 1,
+            _ => seeded.below(bound),
+        };
+        let passed_over = seeded.index(8).saturating_sub(5);
+        words.extend((0..passed_over).map(|_| seeded.passed_over(bound)));
+        words.push(value + seeded.below(u64::MAX / bound) * bound);
+        ends.push(words.len());
+        Some(value.into())
+    });
+    chosen.expect("every draw is answered");
+    ends
+}
+
+#[test]
+fn largest_sums() {
+    let top = 1 << 20;
+    let both = [(1, top, 0), (2, top, top - 1), (0, 0, 1)];
+    let held = round(&both, [top, top], [Some(0), Some(1)]);
+    let (scale, old_weight) = (1 << 41, 1 << 60);
+    let first = (scale, (1 << 40) - 1);
+    check(
+        "lowest",
+        &held,
+        &[first, (old_weight, 0), (old_weight, 0)],
+        1,
+        Outcome::Held,
+    );
+    let highest = old_weight - 1;
+    let draws = [first, (old_weight, highest), (old_weight, highest)];
+    check("highest", &held, &draws, 2, Outcome::Replaced);
+    check("second", &held, &[(scale, scale - 1)], 1, Outcome::Held);
+}
+
+#[test]
+fn seeded_rounds_agree() {
+    let mut seeded = Seeded::new(5);
+    let mut compared = 0;
+    let mut by_draws = [0; 4];
+    while compared < 200_000 {
+        let donors = seeded.index(3);
+        let any = any_round(&mut seeded, donors);
+        if !is_proper(&any, donors) {
+            continue;
+        }
+        let mut words: Vec<u64> = (0..seeded.index(3)).map(|_| seeded.word()).collect();
+        let at = words.len();
+        let ends = words_for(&mut seeded, &any, &mut words);
+        let choice = agreed(&any, &words, at).expect("the words suffice");
+        assert_eq!(choice.next, words.len());
+        for end in &ends {
+            assert_eq!(agreed(&any, &words[..end - 1], at), None);
+        }
+        by_draws[ends.len()] += 1;
+        compared += 1;
+    }
+    assert!(
+        by_draws.iter().all(|&rounds| rounds >= 1_000),
+        "{by_draws:?}"
+    );
+}
+
+/// A small round with up to so many donors and measures of at most `most`, no lift held.
+fn small_round(seeded: &mut Seeded, donors: usize, most: u64) -> Round {
+    let count = 1 + seeded.index(4);
+    let row = |_| match seeded.index(donors + 1) {
+        0 => (0, 0, seeded.below(most + 1)),
+        donor => (donor, 1 + seeded.below(most), seeded.below(most + 1)),
+    };
+    let rows: Vec<LiftRow> = (0..count).map(row).collect();
+    let mut small = round(&rows, [0, 0], [None, None]);
+    for donor in 0..donors {
+        small.old_sums[donor] = small.came_here(donor) as u64 + seeded.below(3);
+    }
+    small
+}
+
+/// Whether exactly so many donors send measure and the new sum is above 0.
+fn is_proper(round: &Round, donors: usize) -> bool {
+    (0..donors).all(|donor| round.came_here(donor) > 0) && round.new_sum() > 0
+}
+
+/// Where a donor's held lift may be, each with its weight out of the donor's whole old sum.
+fn held_places(round: &Round, donor: usize) -> Vec<(Option<usize>, u128)> {
+    let here = round.lifts.iter().enumerate();
+    let mut places: Vec<_> = here
+        .filter(|(_, lift)| lift.donor == Some(donor))
+        .map(|(place, lift)| (Some(place), lift.old_measure.into()))
+        .collect();
+    places.push((None, whole_sum(round, donor) - round.came_here(donor)));
+    places
+}
+
+/// A donor's whole old sum, 1 if there is no such donor.
+fn whole_sum(round: &Round, donor: usize) -> u128 {
+    round.old_sums[donor].max(1).into()
+}
+
+/// Steps to the next values of the draws made; false when all have been through.
+fn step(draws: &mut Vec<Drawn>) -> bool {
+    while let Some((bound, value)) = draws.pop() {
+        if value + 1 < bound {
+            draws.push((bound, value + 1));
+            return true;
+        }
+    }
+    false
+}
+
+/// Calls `seen` with the chosen place and the product of the bounds for all draws' values.
+fn all_ways(round: &Round, mut seen: impl FnMut(usize, u128)) {
+    let mut draws: Vec<Drawn> = Vec::new();
+    loop {
+        let mut made = 0;
+        let chosen = choose_by(round, &mut |bound| {
+            if made == draws.len() {
+                draws.push((bound, 0));
+            }
+            made += 1;
+            Some(draws[made - 1].1)
+        });
+        let (place, _) = chosen.expect("every draw is answered");
+        seen(place, draws.iter().map(|(bound, _)| bound).product());
+        if !step(&mut draws) {
+            return;
+        }
+    }
+}
+
+/// For each product of bounds, the weight of the ways to each lift out of both whole old sums.
+fn weigh_ways(round: &Round) -> BTreeMap<u128, Vec<u128>> {
+    let mut weights = BTreeMap::new();
+    let mut marked = round.clone();
+    for (held_1, weight_1) in held_places(round, 0) {
+        for (held_2, weight_2) in held_places(round, 1) {
+            marked.held = [held_1, held_2];
+            all_ways(&marked, |place, bounds| {
+                let unweighed = || vec![0; round.lifts.len()];
+                weights.entry(bounds).or_insert_with(unweighed)[place] += weight_1 * weight_2;
+            });
+        }
+    }
+    weights
+}
+
+/// The least common multiple.
+fn common_multiple(a: u128, b: u128) -> u128 {
+    let (mut divisor, mut rest) = (a, b);
+    while rest > 0 {
+        (divisor, rest) = (rest, divisor % rest);
+    }
+    a / divisor * b
+}
+
+/// Checks that the ways to each lift weigh exactly b over S, multiplied out.
+fn check_shares(round: &Round) {
+    let weights = weigh_ways(round);
+    let common = weights.keys().copied().fold(1, common_multiple);
+    let whole = common * whole_sum(round, 0) * whole_sum(round, 1);
+    for (place, lift) in round.lifts.iter().enumerate() {
+        let parts = weights.iter();
+        let weight: u128 = parts
+            .map(|(bounds, ways)| ways[place] * (common / bounds))
+            .sum();
+        let expected = whole * u128::from(lift.new_measure);
+        assert_eq!(weight * round.new_sum(), expected, "{place} of {round:?}");
+    }
+}
+
+#[test]
+fn shares_are_exact() {
+    let mut seeded = Seeded::new(4);
+    for (donors, most, count) in [(0, 5, 50), (1, 5, 200), (2, 2, 200), (2, 3, 20)] {
+        let rounds = iter::repeat_with(|| small_round(&mut seeded, donors, most));
+        let proper = rounds.filter(|round| is_proper(round, donors));
+        proper.take(count).for_each(|round| check_shares(&round));
+    }
+}
