@@ -9,7 +9,7 @@ run: archive
 	@$(CARGO) run --quiet --release --offline --bin draws -- ../example/words.bin 3 6 100 1 1000000
 
 test:
-	@sh harness/gate
+	@sh .ci/gate
 
 archive:
 	@mkdir -p target

@@ -17,7 +17,7 @@ use Rattle.laws.proofs.Masses.{weighed}
 use Rattle.round.specs.Round.{Lift, liftAt, S, sent, U, D, oldWeight, Weight, weights, weightAt, Fitting}
 use Rattle.round.specs.Choice.{Selection, fresh, preliminary, keyfitz, select, plan, isHeld}
 use Rattle.round.specs.Share.{overHangs, overHeld, chooses}
-use Rattle.round.specs.Keep.{kept, Coupling, tickets, keptTickets, Keeps}
+use Rattle.round.specs.Keep.{kept, Coupling, tickets, keptTickets, Keeps, KeepsTheorem}
 use Rattle.round.specs.declared.Donors.the-variants.{One}
 use Rattle.round.specs.declared.Held.the-variants.{Neither, Single}
 use Rattle.round.proofs.Weights.{old-sum, new-sum, one-positive}
@@ -90,8 +90,8 @@ module _ (T : ℕ) (ls : List Lift) (f : Fitting (One T) ls) (whole : U 1 ls ≡
       ≈-num (add-zero (total (map smaller ws)))
       (⊕-same (≈-trans (sum-≈ (length ls) (λ i l. ⊗-≈ (old-part i l) (keeps-here i l))) here-part) elsewhere-part)
 
-  pub keeps : Keeps T ls
-  keeps = record {
+  kept-most : Keeps T ls
+  kept-most = record {
     most = λ times grid c.
         let ws = weights (One T) ls in let d = kept (One T) ls .den in
         let e : tickets (length ls) grid ≡ D (One T) ls * S ls * times
@@ -100,3 +100,6 @@ module _ (T : ℕ) (ls : List Lift) (f : Fitting (One T) ls) (whole : U 1 ls ≡
         rw e (omega (arith, mul-le-mul-right d m, ap (λ x. x * times) (kept-sum .cross)));
     exactly = kept-sum;
   }
+
+pub keeps : KeepsTheorem
+keeps = kept-most

@@ -8,8 +8,8 @@ use lib.Dec.{leb, ltb}
 use Rattle.laws.specs.Plan.{Plan, done, draw, after, Drawable, Within}
 use Rattle.round.specs.Round.{Lift, Weight, weights, weightAt, Fitting}
 use Rattle.round.specs.Choice.{Preliminary, nobody, place, fresh, firstOdds, preliminary, stayOr, replacement, keyfitz, select, plan}
-use Rattle.round.specs.Slices.{Bounded, Stands}
-use Rattle.round.specs.Law.{Lawful}
+use Rattle.round.specs.Slices.{Stands}
+use Rattle.round.specs.Law.{LawsTheorem}
 use Rattle.round.specs.declared.Donors.{Donors}
 use Rattle.round.specs.declared.Donors.the-variants.{None, One, Two}
 use Rattle.round.specs.declared.Held.{Held}
@@ -64,7 +64,7 @@ drawable (Two T₁ T₂) ls f Neither s = every-fresh ls (f .positive)
 drawable (Two T₁ T₂) ls f (Single i) s = every-plan (Two T₁ T₂) ls (f .positive) (two-positive (f .donate .0) (f .donate .1)) (Single i) s
 drawable (Two T₁ T₂) ls f (Both i j) s = every-plan (Two T₁ T₂) ls (f .positive) (two-positive (f .donate .0) (f .donate .1)) (Both i j) s
 
-pub lawful : (ds : Donors) (ls : List Lift) → Fitting ds ls → Bounded ds ls → Lawful ds ls
+pub lawful : LawsTheorem
 lawful ds ls f b =
     let e = old-sum ds ls ∙ sym (new-sum ds ls) in
     record {

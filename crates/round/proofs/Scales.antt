@@ -26,6 +26,7 @@ use Rattle.round.proofs.Walks.{lifts-length}
 
 -- ---- the multipliers of a round
 
+-- a donor is 1 or 2 or neither
 multiplied : (s : Scale) (l : Lift) → scaled s l .old ≡ sent 1 l * s .first + sent 2 l * s .second
 multiplied s l = go (l .donor) (eqb (l .donor) 1) refl (eqb (l .donor) 2) refl
   where
@@ -52,7 +53,7 @@ unfolding weights newWeight
 weights-scaled ds ls =
     ap (λ f. map f ls) (fun-ext (λ l. ap₂ (λ m b. record { old = m; new = b }) (old-scaled ds ls l) (ap (λ d. l .new * d) (D-scale ds ls))))
 
--- both weights sum to D × S
+-- a sum over the weights
 scaled-sum : (ds : Donors) (ls : List Lift) (f : Weight → ℕ) → total (map f (weights ds ls)) ≡ total (map (λ l. f (scaled (scaleOf ds ls) l)) ls)
 scaled-sum ds ls f = rw (weights-scaled ds ls) (total-map (scaled (scaleOf ds ls)) f ls)
 
@@ -65,7 +66,7 @@ scale-room {ds} {ls} e f b =
     let w = weight-bound ds ls f b in
     rw e (record { olds = omega (arith, scaled-sum ds ls (λ w. w .old), old-sum ds ls); news = omega (arith, scaled-sum ds ls (λ w. w .new), new-sum ds ls) })
 
--- ---- the whole new measures
+-- ---- the whole new measures: no old measure counts
 
 whole-old : (ls : List Lift) → total (map (λ l. scaled wholly l .old) ls) ≡ 0
 unfolding total
@@ -86,7 +87,7 @@ whole-room {ls = ls} b = record { olds = omega (arith, whole-old ls); news = ome
 pub whole-positive : {ds : Donors} {ls : List Lift} → Fitting ds ls → 1 ≤ G (map (scaled wholly) ls)
 whole-positive {ls = ls} f = rw (whole-G ls) (f .positive)
 
--- ---- what a caller shows
+-- ---- the sums of the code
 
 -- one donor: the code's sums are the multipliers
 pub one-scale : {ds : Donors} {T : ℕ} (ls : List Lift) {u x : ℕ} → ds ≡ One T → u ≡ U 1 ls → x ≡ G (map (scaled wholly) ls)
@@ -152,6 +153,8 @@ module _ {ds : Donors} {T₁ T₂ : ℕ} {ls : List Lift} (e : ds ≡ Two T₁ T
 
   pub second-times : {x : ℕ} → x ≡ G (map (scaled wholly) ls) → Fits w64 (T₂ * x)
   second-times q = rw (q, whole-G) (omega (arith, mul-le-mul (small .second) (small .whole)))
+
+-- ---- what a caller shows
 
 -- a held lift stands at a place of the slices
 pub single-inside : {D : Donors} {ms ds bs : List ℕ} {h : Held} {i : ℕ} → Level ms ds bs → h ≡ Single i → Callable D (lifts ms ds bs) h → i < length ms

@@ -8,15 +8,15 @@ use native.Mathlib.Omega.{arith}
 use lib.ListN.{length, getD, length-map}
 use lib.Dec.{ltb, eqb}
 use borrow.Author.Tests.{lt-ltb, le-ltb, ltb-true, eq-eqb, ne-eqb}
-use Rattle.laws.specs.Sum.{over, total}
+use Rattle.laws.specs.Sum.{over}
 use Rattle.laws.specs.Fraction.{Fraction, _//_, _⊕_, _⊗_, _≈_, sum}
 use Rattle.laws.specs.Plan.{after, Every, Drawable, paths, weight, mass}
 use Rattle.laws.proofs.Sums.{over-ext}
 use Rattle.laws.proofs.Fractions.{≈-refl, ≈-sym, ≈-trans, ⊕-≈, ⊗-≈, ⊗-assoc, sum-≈, sum-cut, sum-part}
 use Rattle.laws.proofs.Masses.{weighed, mass-after, mass-den, mass-hits, mean-classes, every-map, every-after}
-use Rattle.round.specs.Round.{Lift, liftAt, S, D, oldWeight, newWeight, Weight, weights, weightAt, Fitting}
+use Rattle.round.specs.Round.{Lift, liftAt, S, D, oldWeight, newWeight, weights, weightAt}
 use Rattle.round.specs.Choice.{Preliminary, nobody, place, selection, fresh, preliminary, keyfitz, select, plan}
-use Rattle.round.specs.Share.{overHeld, chooses, comes, any, share, preliminaryShare, Updates, Shares}
+use Rattle.round.specs.Share.{overHeld, chooses, comes, any, share, preliminaryShare, UpdatesTheorem, SharesTheorem}
 use Rattle.round.specs.declared.Donors.{Donors}
 use Rattle.round.specs.declared.Donors.the-variants.{None, One, Two}
 use Rattle.round.specs.declared.Held.{Held}
@@ -28,7 +28,7 @@ use Rattle.round.proofs.Preliminaries.{Only, Alike, Known, known-one, k
 
 -- ---- Keyfitz's update of a preliminary unit that comes with its old weight
 
-pub updates : (ws : List Weight) (N : ℕ) → 0 < N → total (map (λ w. w .old) ws) ≡ N → total (map (λ w. w .new) ws) ≡ N → Updates ws N
+pub updates : UpdatesTheorem
 updates ws N p e f = record {
   updated = λ q every h j l.
       let t = chooses j in
@@ -238,7 +238,7 @@ none-whole : (ls : List Lift) → 0 < S ls → overHeld None ls (λ h. weight (�
 unfolding overHeld plan preliminary after select
 none-whole ls q = weighed (λ _. true) (fresh ls) (every-fresh ls q) .whole
 
-pub shares : (ds : Donors) (ls : List Lift) → Fitting ds ls → Shares ds ls
+pub shares : SharesTheorem
 unfolding D
 shares None ls f = record {
   shares = none-shared ls (f .positive);

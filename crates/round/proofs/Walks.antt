@@ -37,62 +37,54 @@ lifts-at {ms = m ∷ ms} {ds = d ∷ ds} {bs = []} l i h = absurd (omega (arith,
 lifts-at {ms = m ∷ ms} {ds = d ∷ ds} {bs = b ∷ bs} l zero h = refl
 lifts-at {ms = m ∷ ms} {ds = d ∷ ds} {bs = b ∷ bs} l (suc i) h = lifts-at (tail l) i (omega arith)
 
--- what is left at i begins with the lift at i
-left-cons : {ms ds bs : List ℕ} → Level ms ds bs → (i : ℕ) → i < length ms
-    → drop i (lifts ms ds bs) ≡ lift (getD ms i 0) (getD ds i 0) (getD bs i 0) ∷ drop (i + 1) (lifts ms ds bs)
-left-cons {ms} {ds} {bs} l i h =
-    let k : i < length (lifts ms ds bs) = rw (lifts-length l) h in
-    rw (drop-cons (lifts ms ds bs) i (lift 0 0 0) k, lifts-at l i h, add-one)
+-- ---- what is left of the round at i
 
 left-none : {ms ds bs : List ℕ} → Level ms ds bs → {i : ℕ} → length ms ≤ i → drop i (lifts ms ds bs) ≡ []
 left-none {ms} {ds} {bs} l {i} h = drop-of-length-le (lifts ms ds bs) {i = i} (rw (lifts-length l) h)
 
--- ---- a sum over the lifts
+-- it begins with the lift at i
+left-cons : (f : Lift → ℕ) {ms ds bs : List ℕ} {i w : ℕ} → Level ms ds bs → i < length ms → w ≡ f (lift (getD ms i 0) (getD ds i 0) (getD bs i 0))
+    → map f (drop i (lifts ms ds bs)) ≡ w ∷ map f (drop (i + 1) (lifts ms ds bs))
+left-cons f {ms} {ds} {bs} {i} l h e =
+    let k : i < length (lifts ms ds bs) = rw (lifts-length l) h in
+    rw (drop-cons (lifts ms ds bs) i (lift 0 0 0) k, lifts-at l i h, e, add-one)
 
--- the sum so far and f of the lifts from i on are the whole sum
+-- a sum: what there is so far and f of the lifts from i on are the whole
 pub record Summed (f : Lift → ℕ) (ls : List Lift) (whole sum i : ℕ) : Type 0 where
   pub same : sum + total (map f (drop i ls)) ≡ whole
+
+-- a search: what is left of the position falls, from i on, in the interval of the place sought
+pub record Sought (f : Lift → ℕ) (ls : List Lift) (place left i : ℕ) : Type 0 where
+  pub same : i + pick (map f (drop i ls)) left ≡ place
 
 pub sum-none : {f : Lift → ℕ} {ls : List Lift} {whole : ℕ} → total (map f ls) ≡ whole → Summed f ls whole 0 0
 sum-none e = record { same = omega arith }
 
-module _ {f : Lift → ℕ} {ms ds bs : List ℕ} {whole sum i : ℕ} (l : Level ms ds bs) where
-  grown : {w : ℕ} → i < length ms → w ≡ f (lift (getD ms i 0) (getD ds i 0) (getD bs i 0)) → Summed f (lifts ms ds bs) whole sum i
-      → sum + w + total (map f (drop (i + 1) (lifts ms ds bs))) ≡ whole
-  unfolding total
-  grown h e d = rw e (omega (arith, rw (left-cons l i h) at (d .same)))
-
-  pub sum-turn : {w : ℕ} → i < length ms → w ≡ f (lift (getD ms i 0) (getD ds i 0) (getD bs i 0)) → Summed f (lifts ms ds bs) whole sum i
-      → Summed f (lifts ms ds bs) whole (sum + w) (i + 1)
-  sum-turn h e d = record { same = grown h e d }
-
-  pub sum-room : {w : ℕ} → i < length ms → w ≡ f (lift (getD ms i 0) (getD ds i 0) (getD bs i 0)) → Summed f (lifts ms ds bs) whole sum i → sum + w ≤ whole
-  sum-room h e d = omega (arith, grown h e d)
-
-  pub sum-end : length ms ≤ i → Summed f (lifts ms ds bs) whole sum i → sum ≡ whole
-  unfolding total
-  sum-end h d = omega (arith, rw (left-none l h) at (d .same))
-
--- ---- the place in whose interval a position falls
-
--- from i on, what is left of the position falls in the interval of the place sought
-pub record Sought (f : Lift → ℕ) (ls : List Lift) (place left i : ℕ) : Type 0 where
-  pub same : i + pick (map f (drop i ls)) left ≡ place
-
 seek-none : {f : Lift → ℕ} {ls : List Lift} {place q : ℕ} → pick (map f ls) q ≡ place → Sought f ls place q 0
 seek-none e = record { same = omega arith }
 
-module _ {f : Lift → ℕ} {ms ds bs : List ℕ} {place left i : ℕ} (l : Level ms ds bs) where
-  pub seek-turn : {w : ℕ} → i < length ms → w ≡ f (lift (getD ms i 0) (getD ds i 0) (getD bs i 0)) → w ≤ left → Sought f (lifts ms ds bs) place left i
-      → Sought f (lifts ms ds bs) place (left - w) (i + 1)
-  seek-turn h e k d = record { same = rw e (omega (arith, rw (left-cons l i h, pick-beyond _ _ left (rw e at k)) at (d .same))) }
+module _ {f : Lift → ℕ} {ms ds bs : List ℕ} {i w : ℕ} (l : Level ms ds bs) (h : i < length ms) (e : w ≡ f (lift (getD ms i 0) (getD ds i 0) (getD bs i 0))) where
+  pub sum-turn : {whole sum : ℕ} → Summed f (lifts ms ds bs) whole sum i → Summed f (lifts ms ds bs) whole (sum + w) (i + 1)
+  unfolding total
+  sum-turn d = record { same = omega (arith, rw (left-cons f l h e) at (d .same)) }
 
-  pub seek-here : {w : ℕ} → i < length ms → w ≡ f (lift (getD ms i 0) (getD ds i 0) (getD bs i 0)) → left < w → Sought f (lifts ms ds bs) place left i → i ≡ place
-  seek-here h e k d = omega (arith, rw (left-cons l i h, pick-here _ _ left (rw e at k)) at (d .same))
+  pub sum-fits : {whole sum : ℕ} → Summed f (lifts ms ds bs) whole sum i → whole ≤ 2 ^ 61 → Fits w64 (sum + w)
+  sum-fits d r = omega (arith, sum-turn d .same)
 
-  pub seek-end : length ms ≤ i → Sought f (lifts ms ds bs) place left i → i ≡ place
+  pub seek-turn : {place left : ℕ} → w ≤ left → Sought f (lifts ms ds bs) place left i → Sought f (lifts ms ds bs) place (left - w) (i + 1)
+  seek-turn k d = record { same = omega (arith, rw (left-cons f l h e, pick-beyond _ _ _ k) at (d .same)) }
+
+  pub seek-here : {place left : ℕ} → left < w → Sought f (lifts ms ds bs) place left i → i ≡ place
+  seek-here k d = omega (arith, rw (left-cons f l h e, pick-here _ _ _ k) at (d .same))
+
+module _ {f : Lift → ℕ} {ms ds bs : List ℕ} {i : ℕ} (l : Level ms ds bs) (h : length ms ≤ i) where
+  pub sum-end : {whole sum : ℕ} → Summed f (lifts ms ds bs) whole sum i → sum ≡ whole
+  unfolding total
+  sum-end d = omega (arith, rw (left-none l h) at (d .same))
+
+  pub seek-end : {place left : ℕ} → Sought f (lifts ms ds bs) place left i → i ≡ place
   unfolding pick
-  seek-end h d = omega (arith, rw (left-none l h) at (d .same))
+  seek-end d = omega (arith, rw (left-none l h) at (d .same))
 
 -- ---- the growths of the lifts
 
@@ -135,16 +127,26 @@ module _ (s : Scale) {ms ds bs : List ℕ} (l : Level ms ds bs) (i : ℕ) (h : i
   pub new-room : Room s (lifts ms ds bs) → getD bs i 0 * s .new ≤ 2 ^ 61
   new-room r = omega (arith, part-le (λ x. scaled s x .new), r .news)
 
-  module _ {x : ℕ} (e : x ≡ multiplierOf s (getD ds i 0)) where
-    pub old-fits : Room s (lifts ms ds bs) → Fits w64 (getD ms i 0 * x)
-    old-fits r = rw e (omega (arith, old-room r))
+  pub new-fits : Room s (lifts ms ds bs) → Fits w64 (getD bs i 0 * s .new)
+  new-fits r = omega (arith, new-room r)
 
-    pub weight-at : weightAt (map (scaled s) (lifts ms ds bs)) i ≡ record { old = getD ms i 0 * x; new = getD bs i 0 * s .new }
-    weight-at = rw (e, none-scaled s, List·getD-map (scaled s) (lifts ms ds bs) i (lift 0 0 0), lifts-at l i h)
+  pub old-fits : {x : ℕ} → x ≡ multiplierOf s (getD ds i 0) → Room s (lifts ms ds bs) → Fits w64 (getD ms i 0 * x)
+  old-fits e r = rw e (omega (arith, old-room r))
 
-    -- where the lift may be dropped, another grows
-    pub moves-G : Balanced s (lifts ms ds bs) → getD bs i 0 * s .new < getD ms i 0 * x → 1 ≤ G (map (scaled s) (lifts ms ds bs))
-    moves-G b k =
-        let ls = lifts ms ds bs in
-        dropped-G (map (scaled s) ls) i (rw (total-map (scaled s) (λ w. w .old) ls, total-map (scaled s) (λ w. w .new) ls) (b .sums))
-        (rw (length-map, lifts-length l) h) (rw weight-at k)
+-- i is a place of the slices, and x multiplies its old measure
+pub record Weighed (s : Scale) (ms ds bs : List ℕ) (i x : ℕ) : Type 0 where
+  pub level : Level ms ds bs
+  pub inside : i < length ms
+  pub multiplies : x ≡ multiplierOf s (getD ds i 0)
+
+module _ {s : Scale} {ms ds bs : List ℕ} {i x : ℕ} (k : Weighed s ms ds bs i x) where
+  pub weight-at : weightAt (map (scaled s) (lifts ms ds bs)) i ≡ record { old = getD ms i 0 * x; new = getD bs i 0 * s .new }
+  weight-at =
+      rw (k .multiplies, none-scaled s, List·getD-map (scaled s) (lifts ms ds bs) i (lift 0 0 0), lifts-at (k .level) i (k .inside))
+
+  -- where the lift may be dropped, another grows
+  pub moves-G : Balanced s (lifts ms ds bs) → getD bs i 0 * s .new < getD ms i 0 * x → 1 ≤ G (map (scaled s) (lifts ms ds bs))
+  moves-G b h =
+      let ls = lifts ms ds bs in
+      dropped-G (map (scaled s) ls) i (rw (total-map (scaled s) (λ w. w .old) ls, total-map (scaled s) (λ w. w .new) ls) (b .sums))
+      (rw (length-map, lifts-length (k .level)) (k .inside)) (rw weight-at h)

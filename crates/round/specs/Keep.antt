@@ -6,7 +6,7 @@ use lib.ListN.{length}
 use Rattle.laws.specs.Sum.{Σ, total}
 use Rattle.laws.specs.Fraction.{Fraction, _//_, _≈_}
 use Rattle.laws.specs.Plan.{paths, weight}
-use Rattle.round.specs.Round.{Lift, S, D, Weight, weights, weightAt}
+use Rattle.round.specs.Round.{Lift, S, U, D, Weight, weights, weightAt, Fitting}
 use Rattle.round.specs.Choice.{plan, isHeld}
 use Rattle.round.specs.Share.{overHeld}
 use Rattle.round.specs.declared.Donors.{Donors}
@@ -35,3 +35,7 @@ pub record Keeps (T : ℕ) (ls : List Lift) : Type 0 where
       → keptTickets (length ls) grid * kept (One T) ls .den ≤ tickets (length ls) grid * kept (One T) ls .num
   -- it is the sum of the smaller of both weights over D × S
   pub exactly : kept (One T) ls ≈ total (map (λ w. min (w .old) (w .new)) (weights (One T) ls)) // (D (One T) ls * S ls)
+
+-- proved: in every round that a fitting sheet gives, with one donor and U = T
+abbrev pub KeepsTheorem : Type 0
+KeepsTheorem = (T : ℕ) (ls : List Lift) → Fitting (One T) ls → U 1 ls ≡ T → Keeps T ls

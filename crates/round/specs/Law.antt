@@ -5,9 +5,9 @@ use mathlib.Core.List.{List, map}
 use lib.ListN.{length}
 use Rattle.laws.specs.Sum.{total}
 use Rattle.laws.specs.Plan.{Drawable, Within}
-use Rattle.round.specs.Round.{Lift, S, D, weights, weightAt, G}
+use Rattle.round.specs.Round.{Lift, S, D, weights, weightAt, G, Fitting}
 use Rattle.round.specs.Choice.{plan}
-use Rattle.round.specs.Slices.{Stands}
+use Rattle.round.specs.Slices.{Bounded, Stands}
 use Rattle.round.specs.declared.Donors.{Donors}
 use Rattle.round.specs.declared.Held.{Held}
 
@@ -24,3 +24,7 @@ pub record Lawful (ds : Donors) (ls : List Lift) : Type 0 where
   pub three : (h : Held) → Within 3 (plan ds ls h)
   -- every draw has a value
   pub drawable : (h : Held) → Stands ds h (length ls) → Drawable (plan ds ls h)
+
+-- proved: in every round that a fitting sheet gives, its sums within the sheet's bound
+abbrev pub LawsTheorem : Type 0
+LawsTheorem = (ds : Donors) (ls : List Lift) → Fitting ds ls → Bounded ds ls → Lawful ds ls

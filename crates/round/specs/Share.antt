@@ -1,12 +1,14 @@
 -- What the paths of a round weigh, over where its donors' held lifts may hang ("What demand 3 weighs" of document 01, for one round).
 use Prim.Native.Nat.{ℕ, _-_, _*_, _<_}
+use mathlib.Core.Path.{_≡_}
 use mathlib.Core.Bool.{Bool, true, false}
-use mathlib.Core.List.{List}
+use mathlib.Core.List.{List, map}
 use lib.ListN.{length}
 use lib.Dec.{eqb}
+use Rattle.laws.specs.Sum.{total}
 use Rattle.laws.specs.Fraction.{Fraction, _//_, _⊕_, _⊗_, _≈_, sum}
 use Rattle.laws.specs.Plan.{Plan, after, Every, paths, weight}
-use Rattle.round.specs.Round.{Lift, liftAt, S, sent, U, D, oldWeight, Weight, weightAt}
+use Rattle.round.specs.Round.{Lift, liftAt, S, sent, U, D, oldWeight, Weight, weightAt, Fitting}
 use Rattle.round.specs.Choice.{Preliminary, nobody, place, Selection, preliminary, keyfitz, plan}
 use Rattle.round.specs.declared.Donors.{Donors}
 use Rattle.round.specs.declared.Donors.the-variants.{None, One, Two}
@@ -63,6 +65,10 @@ pub record Updates (ws : List Weight) (N : ℕ) : Type 0 where
       → ((i : ℕ) → i < length ws → weight (λ a. eqb a i) (paths p) ≈ weightAt ws i .old // N)
       → (j : ℕ) → j < length ws → weight (chooses j) (paths (after p (keyfitz ws))) ≈ weightAt ws j .new // N
 
+-- proved: on any two lists of weights with the same sum above 0
+abbrev pub UpdatesTheorem : Type 0
+UpdatesTheorem = (ws : List Weight) (N : ℕ) → 0 < N → total (map (λ w. w .old) ws) ≡ N → total (map (λ w. w .new) ws) ≡ N → Updates ws N
+
 -- "For each lift of the round, b = 0 included, the ways that have it as their lift weigh together exactly b over S."
 pub record Shares (ds : Donors) (ls : List Lift) : Type 0 where
   pub shares : (j : ℕ) → j < length ls → share ds ls j ≈ liftAt ls j .new // S ls
@@ -71,3 +77,7 @@ pub record Shares (ds : Donors) (ls : List Lift) : Type 0 where
       → preliminaryShare ds ls (comes i) ≈ preliminaryShare ds ls any ⊗ oldWeight ds ls (liftAt ls i) // (D ds ls * S ls)
   -- all paths weigh 1 together
   pub whole : overHeld ds ls (λ h. weight (λ _. true) (paths (plan ds ls h))) ≈ 1 // 1
+
+-- proved: in every round that a fitting sheet gives
+abbrev pub SharesTheorem : Type 0
+SharesTheorem = (ds : Donors) (ls : List Lift) → Fitting ds ls → Shares ds ls

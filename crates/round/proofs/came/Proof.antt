@@ -1,12 +1,11 @@
 -- `round::came` meets its contract: the sum so far and the parts of what is left are U. Assumes nothing.
-use native.Mathlib.Omega.{arith}
 use borrow.Author.Needs.{needs}
 use Prim.Native.Nat.{_-_}
 use lib.ListN.{length}
 use mathlib.Core.Path.{refl}
 use Rattle.round.specs.Round.{sent, U}
 use Rattle.round.specs.Slices.{lifts}
-use Rattle.round.proofs.Walks.{Summed, sum-none, sum-turn, sum-room, sum-end}
+use Rattle.round.proofs.Walks.{Summed, sum-none, sum-turn, sum-fits, sum-end}
 use Rattle.round.proofs.came.Statement.{statement}
 use Rattle.round.proofs.came.Tie as tie
 
@@ -33,7 +32,7 @@ part-requires : tie.Need-part-requires Inv-loop μ-loop
 part-requires c κs = search needs
 
 add-sum : tie.Need-add-sum Inv-loop μ-loop
-add-sum c = omega (arith, sum-room (c .before .before .before .before .before .before .before .before .pre .0) (c .before .before .before .loop-test .taken) (c .part .ensures) (c .before .before .before .before .loop .inv))
+add-sum c = search sum-fits
 
 add-i : tie.Need-add-i Inv-loop μ-loop
 add-i c = search needs

@@ -1,12 +1,11 @@
 -- `round::reach` meets its contract: the sum so far and the growths of what is left are G. Assumes nothing.
-use native.Mathlib.Omega.{arith}
 use borrow.Author.Needs.{needs}
 use Prim.Native.Nat.{_-_}
 use lib.ListN.{length}
 use mathlib.Core.List.{map}
 use Rattle.round.specs.Round.{G}
 use Rattle.round.specs.Slices.{lifts, scaled}
-use Rattle.round.proofs.Walks.{Summed, grows, reach-none, sum-turn, sum-room, sum-end, G-room, old-room, new-room}
+use Rattle.round.proofs.Walks.{Summed, grows, reach-none, sum-turn, sum-fits, sum-end, G-room, old-room, new-room}
 use Rattle.round.proofs.reach.Statement.{statement}
 use Rattle.round.proofs.reach.Tie as tie
 
@@ -38,7 +37,7 @@ interval-requires : tie.Need-interval-requires Inv-loop μ-loop
 interval-requires c κs = search (old-room, new-room)
 
 add-sum : tie.Need-add-sum Inv-loop μ-loop
-add-sum c = omega (arith, sum-room (c .before .before .before .before .before .before .before .before .before .pre .0) (c .before .before .before .before .loop-test .taken) (c .interval .ensures) (c .before .before .before .before .before .loop .inv), G-room (c .before .before .before .before .before .before .before .before .before .pre .1))
+add-sum c = search (sum-fits, G-room)
 
 add-i : tie.Need-add-i Inv-loop μ-loop
 add-i c = search needs

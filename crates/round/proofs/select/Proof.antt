@@ -18,13 +18,17 @@ scaling-requires : tie.Need-scaling-requires
 scaling-requires c κs = search needs
 
 update-requires : tie.Need-update-requires
-update-requires c κs = let p = c .before .before .before .before .before .before .before .before .pre in updatable (p .0) (c .scaling .ensures) (p .1) (single-inside (p .0) (c .before .before .held .given .1) (p .1))
+update-requires c κs =
+    let p = c .before .before .before .before .before .before .before .before .pre in
+    updatable (p .0) (c .scaling .ensures) (p .1) (single-inside (p .0) (c .before .before .held .given .1) (p .1))
 
 enum-known-held-2 : tie.Need-enum-known-held-2
 enum-known-held-2 c = search needs
 
 select-of-two-requires : tie.Need-select-of-two-requires
-select-of-two-requires c κs = let p = c .before .before .before .before .before .before .before .pre in (p .0, rw (c .before .held2 .given .1) at (p .1))
+select-of-two-requires c κs =
+    let p = c .before .before .before .before .before .before .before .pre in
+    (p .0, rw (c .before .held2 .given .1) at (p .1))
 
 returns : tie.Need-returns
 returns c = search neither

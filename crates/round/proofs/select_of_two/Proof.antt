@@ -18,10 +18,14 @@ first-odds-requires : tie.Need-first-odds-requires
 first-odds-requires c κs = search needs
 
 update-requires : tie.Need-update-requires
-update-requires c κs = let p = c .before .before .before .before .before .before .before .before .before .before .before .pre in updatable (p .0) (c .before .before .before .before .before .before .scaling .ensures) (p .1) (first-inside (p .0) (p .1))
+update-requires c κs =
+    let p = c .before .before .before .before .before .before .before .before .before .before .before .pre in
+    updatable (p .0) (c .before .before .before .before .before .before .scaling .ensures) (p .1) (first-inside (p .0) (p .1))
 
 update-requires-2 : tie.Need-update-requires-2
-update-requires-2 c κs = let p = c .before .before .before .before .before .before .before .before .before .before .before .pre in updatable (p .0) (c .before .before .before .before .before .before .scaling .ensures) (p .1) (second-inside (p .0) (p .1))
+update-requires-2 c κs =
+    let p = c .before .before .before .before .before .before .before .before .before .before .before .pre in
+    updatable (p .0) (c .before .before .before .before .before .before .scaling .ensures) (p .1) (second-inside (p .0) (p .1))
 
 enum-told : tie.Need-enum-told
 enum-told c = search needs

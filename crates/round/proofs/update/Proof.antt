@@ -1,10 +1,16 @@
 -- `round::update` meets its contract: one law for each way out; where the lift may be dropped, the growths have a sum above 0. Assumes nothing.
-use native.Mathlib.Omega.{arith}
 use borrow.Author.Needs.{needs}
-use Rattle.round.proofs.Walks.{old-fits, new-room, moves-G}
+use Rattle.round.proofs.Walks.{Weighed, old-fits, new-fits, moves-G}
 use Rattle.round.proofs.Answers.{stays, kept, moved, update-short}
 use Rattle.round.proofs.update.Statement.{statement}
 use Rattle.round.proofs.update.Tie as tie
+
+-- the lift at i, once its multiplier is known
+weighed : (c : tie.After-multiplier)
+    → let a = c .before .before .before .before .before .before .before .args in Weighed (a .s) (a .old .now) (a .donor .now) (a .new .now) (a .i) (c .multiplier .result)
+weighed c =
+    let p = c .before .before .before .before .before .before .before .pre in
+    record { level = p .0; inside = p .1 .1 .1; multiplies = c .multiplier .ensures }
 
 mul-before : tie.Need-mul-before
 mul-before c = search needs
@@ -28,13 +34,13 @@ shared-slice-read-after : tie.Need-shared-slice-read-after
 shared-slice-read-after c = search needs
 
 mul-after-2 : tie.Need-mul-after-2
-mul-after-2 c = let p = c .before .before .before .before .before .before .before .before .before .pre in omega (arith, new-room _ (p .0) _ (p .1 .1 .1) (p .1 .0))
+mul-after-2 c = search new-fits
 
 outcome-requires : tie.Need-outcome-requires
 outcome-requires c κs = search needs
 
 returns : tie.Need-returns
-returns c = let p = c .before .before .before .before .before .before .before .before .before .before .before .pre in search (stays, p .0, p .1 .1 .1, c .before .before .before .before .multiplier .ensures, c .before .if1 .taken, c .outcome .ensures)
+returns c = search (stays, weighed (c .before .before .before .before), c .before .if1 .taken, c .outcome .ensures)
 
 below-requires : tie.Need-below-requires
 below-requires c κs = search needs
@@ -46,19 +52,23 @@ outcome-requires-2 : tie.Need-outcome-requires-2
 outcome-requires-2 c κs = search needs
 
 draw-lift-requires : tie.Need-draw-lift-requires
-draw-lift-requires c κs = let p = c .before .before .before .before .before .before .before .before .before .before .before .before .before .before .before .pre in (p .0, (p .1 .0, moves-G _ (p .0) _ (p .1 .1 .1) (c .before .before .before .before .before .before .before .before .multiplier .ensures) (p .1 .1 .0) (c .before .before .before .before .before .if1 .left)))
+draw-lift-requires c κs =
+    let b = c .before .before .before .before .before .before .before .before .before .before .before .before .before .before .before .pre .1 .1 .0 in
+    (search needs, (search needs, moves-G (weighed (c .before .before .before .before .before .before .before .before)) b (c .before .before .before .before .before .if1 .left)))
 
 enum-told : tie.Need-enum-told
 enum-told c = search needs
 
 returns-2 : tie.Need-returns-2
-returns-2 c = let p = c .before .before .before .before .before .before .before .before .before .before .before .before .before .before .before .before .pre in search (kept, p .0, p .1 .1 .1, c .before .before .before .before .before .before .before .before .before .multiplier .ensures, c .before .before .before .before .before .before .if1 .left, c .before .before .before .before .before .below .ensures .0, c .before .before .before .r .given .1, c .before .if2 .taken, c .outcome2 .ensures)
+returns-2 c =
+    let w = weighed (c .before .before .before .before .before .before .before .before .before) in
+    search (kept, w, c .before .before .before .before .before .before .if1 .left, c .before .if2 .taken, c .outcome2 .ensures)
 
 returns-3 : tie.Need-returns-3
-returns-3 c = search moved
+returns-3 c = search (moved, weighed (c .before .before .before .before .before .before .before .before .before))
 
 returns-4 : tie.Need-returns-4
-returns-4 c = search update-short
+returns-4 c = search (update-short, weighed (c .before .before .before .before .before .before))
 
 pub update-spec : {M : Type 1} → statement M
 update-spec =
