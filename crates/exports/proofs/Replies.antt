@@ -3,11 +3,10 @@ use Prim.Native.Nat.{ℕ}
 use mathlib.Core.Path.{_≡_, refl}
 use mathlib.Core.Bool.{true, false}
 use mathlib.Core.List.{List}
-use Rattle.draw.specs.Run.{run}
 use Rattle.draw.specs.declared.Drawn.{Drawn}
 use Rattle.draw.specs.declared.Drawn.the-variants.{Value, Short}
 use Rattle.round.specs.Round.{Lift}
-use Rattle.round.specs.Choice.{plan, answer}
+use Rattle.round.specs.Choice.{selected}
 use Rattle.round.specs.Slices.{Callable}
 use Rattle.round.specs.declared.Donors.{Donors}
 use Rattle.round.specs.declared.Held.{Held}
@@ -31,6 +30,6 @@ chose-short e = rw (← e) (record { told = refl; place-written = refl; outcome-
 pub by-enums : {ds ds′ : Donors} {h h′ : Held} {ls : List Lift} → ds ≡ ds′ → h ≡ h′ → Callable ds′ ls h′ → Callable ds ls h
 by-enums e f c = rw (e, f) c
 
-pub answer-by-enums : {ds ds′ : Donors} {h h′ : Held} (ls : List Lift) (m : ℕ) (ws : List ℕ) (from : ℕ) {s : Selected} → ds ≡ ds′ → h ≡ h′
-    → s ≡ answer h (run m ws from (plan ds ls h)) → s ≡ answer h′ (run m ws from (plan ds′ ls h′))
-answer-by-enums ls m ws from e f g = rw (e, f) at g
+pub answer-by-enums : {ds ds′ : Donors} {h h′ : Held} (ls : List Lift) (ws : List ℕ) (from : ℕ) {s : Selected} → ds ≡ ds′ → h ≡ h′
+    → s ≡ selected ds ls h ws from → s ≡ selected ds′ ls h′ ws from
+answer-by-enums ls ws from e f g = rw (e, f) at g

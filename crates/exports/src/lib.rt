@@ -1,8 +1,7 @@
 // The functions that the harness calls, by the C calling convention.
 ghost use mathlib.Core.Path.{_≡_};
 ghost use Rattle.draw.specs.Draw.{largest, drawAt};
-ghost use Rattle.draw.specs.Run.{run};
-ghost use Rattle.round.specs.Choice.{plan, answer};
+ghost use Rattle.round.specs.Choice.{selected};
 ghost use Rattle.round.specs.Slices.{lifts, Level, Callable};
 ghost use Rattle.exports.specs.Reply.{Replied, donorsOf, heldOf, Chose};
 use draw::Drawn;
@@ -81,7 +80,7 @@ pub extern "C" fn jengpilo_round_select(
 ) -> bool
     requires { ⌜ Level (now old) (now donor) (now new) ⌝ }
     requires { ⌜ Callable (donorsOf donors t1 t2) (lifts (now old) (now donor) (now new)) (heldOf held i j) ⌝ }
-    ensures { λ r. ⌜ Chose (answer (heldOf held i j) (run largest (now (words .entry)) at (plan (donorsOf donors t1 t2) (lifts (now (old .entry)) (now (donor .entry)) (now (new .entry))) (heldOf held i j)))) r (now (place .entry)) (now (place .exit)) (now (outcome .entry)) (now (outcome .exit)) (now (next .entry)) (now (next .exit)) ⌝ }
+    ensures { λ r. ⌜ Chose (selected (donorsOf donors t1 t2) (lifts (now (old .entry)) (now (donor .entry)) (now (new .entry))) (heldOf held i j) (now (words .entry)) at) r (now (place .entry)) (now (place .exit)) (now (outcome .entry)) (now (outcome .exit)) (now (next .entry)) (now (next .exit)) ⌝ }
 {
     let selected = round::select(
         old,

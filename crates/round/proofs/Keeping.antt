@@ -16,7 +16,7 @@ use Rattle.laws.proofs.Fractions.{≈-trans, ≈-num, ⊕-same, ⊗-≈, sum-�
 use Rattle.laws.proofs.Masses.{weighed}
 use Rattle.round.specs.Round.{Lift, liftAt, S, sent, U, D, oldWeight, Weight, weights, weightAt, Fitting}
 use Rattle.round.specs.Choice.{Selection, fresh, preliminary, keyfitz, select, plan, isHeld}
-use Rattle.round.specs.Share.{overHangs, overHeld, chooses}
+use Rattle.round.specs.Share.{overInitial, overHeld, chooses}
 use Rattle.round.specs.Keep.{kept, Coupling, tickets, keptTickets, Keeps, KeepsTheorem}
 use Rattle.round.specs.declared.Donors.the-variants.{One}
 use Rattle.round.specs.declared.Held.the-variants.{Neither, Single}
@@ -82,7 +82,7 @@ module _ (T : ℕ) (ls : List Lift) (f : Fitting (One T) ls) (whole : U 1 ls ≡
       rw e (record { cross = omega arith; left = mul-pos p d; right = mul-pos (one-positive (f .donate)) (f .positive) })
 
   kept-sum : kept (One T) ls ≈ total (map smaller (weights (One T) ls)) // (D (One T) ls * S ls)
-  unfolding kept overHeld overHangs
+  unfolding kept overHeld overInitial
   kept-sum =
       let ws = weights (One T) ls in let N : ℕ = D (One T) ls * S ls in
       let here-part : sum (length ls) (λ i. weightAt ws i .old // N ⊗ mass (chooses i) (keyfitz ws i)) ≈ total (map smaller ws) // N

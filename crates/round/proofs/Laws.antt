@@ -7,7 +7,7 @@ use lib.ListN.{length}
 use lib.Dec.{leb, ltb}
 use Rattle.laws.specs.Plan.{Plan, done, draw, after, Drawable, Within}
 use Rattle.round.specs.Round.{Lift, Weight, weights, weightAt, Fitting}
-use Rattle.round.specs.Choice.{Preliminary, nobody, place, fresh, firstOdds, preliminary, stayOr, replacement, keyfitz, select, plan}
+use Rattle.round.specs.Choice.{Preliminary, noUnit, unitAt, fresh, firstOdds, preliminary, stayOr, replacement, keyfitz, select, plan}
 use Rattle.round.specs.Slices.{Stands}
 use Rattle.round.specs.Law.{LawsTheorem}
 use Rattle.round.specs.declared.Donors.{Donors}
@@ -41,14 +41,14 @@ within-keyfitz ws i = within-stayOr 1 (weightAt ws i) _ _ tt (λ q _. tt)
 
 within-select : (ds : Donors) (ls : List Lift) (a : Preliminary) → Within 2 (select ds ls a)
 unfolding Within select fresh
-within-select ds ls nobody = λ v l. tt
-within-select ds ls (place i) = within-keyfitz (weights ds ls) i
+within-select ds ls noUnit = λ v l. tt
+within-select ds ls (unitAt i) = within-keyfitz (weights ds ls) i
 
 three : (ds : Donors) (ls : List Lift) (h : Held) → Within 3 (plan ds ls h)
 unfolding Within plan preliminary after
-three ds ls Neither = within-more 2 (select ds ls nobody) (within-select ds ls nobody)
-three ds ls (Single i) = within-more 2 (select ds ls (place i)) (within-select ds ls (place i))
-three ds ls (Both i j) = λ v l. within-select ds ls (place (cond (ltb v (firstOdds ds ls)) i j))
+three ds ls Neither = within-more 2 (select ds ls noUnit) (within-select ds ls noUnit)
+three ds ls (Single i) = within-more 2 (select ds ls (unitAt i)) (within-select ds ls (unitAt i))
+three ds ls (Both i j) = λ v l. within-select ds ls (unitAt (cond (ltb v (firstOdds ds ls)) i j))
 
 -- ---- every draw has a value
 

@@ -1,6 +1,6 @@
 pub mod Weights
 pub mod Keyfitz
-pub mod Hanging
+pub mod Initials
 pub mod Preliminaries
 pub mod Shares
 pub mod Keeping

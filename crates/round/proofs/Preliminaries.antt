@@ -1,4 +1,4 @@
--- The preliminary lift, over where the held lifts hang. With T = U + E, here and elsewhere, and two donors, the mass of a lift of donor 1 is
+-- The preliminary lift, over the initial selections. With T = U + E, here and elsewhere, and two donors, the mass of a lift of donor 1 is
 -- m / T1 × (E2 / T2 + U2 / T2 × U2 × T1 / D) = m × T2 / D × (1 − E1 × E2 / (T1 × T2)): its old weight over D × S, given that a held lift is here.
 use Prim.Native.Nat.{ℕ, _+_, _*_, _-_, _≤_, _<_}
 use mathlib.Core.Path.{_≡_, refl, ap, ap₂, _∙_}
@@ -15,12 +15,12 @@ use Rattle.laws.proofs.Sums.{over-ext, Σ-add, Σ-mul, Σ-step, Σ-one}
 use Rattle.laws.proofs.Fractions.{≈-refl, ≈-trans, ≈-num}
 use Rattle.laws.proofs.Masses.{mass-even}
 use Rattle.round.specs.Round.{Lift, liftAt, S, sent, U, D, oldWeight, Sends}
-use Rattle.round.specs.Choice.{Preliminary, nobody, place, preliminary, firstOdds}
-use Rattle.round.specs.Share.{here, elsewhere, heldOf, overHangs, overHeld}
+use Rattle.round.specs.Choice.{Preliminary, noUnit, unitAt, preliminary, firstOdds}
+use Rattle.round.specs.Share.{here, elsewhere, heldOf, overInitial, overHeld}
 use Rattle.round.specs.declared.Donors.{Donors}
 use Rattle.round.specs.declared.Donors.the-variants.{One, Two}
 use Rattle.round.specs.declared.Held.{Held}
-use Rattle.round.proofs.Hanging.{sent-all, hangs-same}
+use Rattle.round.proofs.Initials.{sent-all, initial-same}
 
 -- ---- the draw between two held lifts
 
@@ -60,11 +60,11 @@ two-identity : (U₁ E₁ U₂ E₂ C₁ C₂ z T₁ T₂ : ℕ) → T₁ ≡ U�
     ≡ (U₁ * T₂ + U₂ * E₁) * (T₂ * C₁ + T₁ * C₂) + E₁ * E₂ * z * (U₁ * T₂ + U₂ * T₁)
 two-identity U₁ E₁ U₂ E₂ C₁ C₂ z T₁ T₂ e f = rw (e, f) (omega arith)
 
-module _ (ls : List Lift) (t : Preliminary → Bool) (c : ℕ → ℕ) (z : ℕ) (hc : (a : ℕ) → a < length ls → indicator (t (place a)) ≡ c a) (hz : indicator (t nobody) ≡ z) where
+module _ (ls : List Lift) (t : Preliminary → Bool) (c : ℕ → ℕ) (z : ℕ) (hc : (a : ℕ) → a < length ls → indicator (t (unitAt a)) ≡ c a) (hz : indicator (t noUnit) ≡ z) where
   one-mass : (T : ℕ) → 0 < T → overHeld (One T) ls (λ h. mass t (preliminary (One T) ls h)) ≈ (passing 1 ls c + (T - U 1 ls) * z) // (T * 1)
   unfolding overHeld preliminary mass passing
   one-mass T p =
-      hangs-same 1 T ls p (λ x. mass t (preliminary (One T) ls (heldOf x elsewhere))) {x = c} {y = z} {R = 1} (omega arith) (λ i l. rw (hc i l) (≈-refl (omega arith))) (rw hz (≈-refl (omega arith)))
+      initial-same 1 T ls p (λ x. mass t (preliminary (One T) ls (heldOf x elsewhere))) {x = c} {y = z} {R = 1} (omega arith) (λ i l. rw (hc i l) (≈-refl (omega arith))) (rw hz (≈-refl (omega arith)))
 
   module _ (T₁ T₂ : ℕ) (s₁ : Sends 1 T₁ ls) (s₂ : Sends 2 T₂ ls) where
     two-mass : overHeld (Two T₁ T₂) ls (λ h. mass t (preliminary (Two T₁ T₂) ls h))
@@ -79,30 +79,30 @@ module _ (ls : List Lift) (t : Preliminary → Bool) (c : ℕ → ℕ) (z : ℕ)
         let p : 0 < d = omega (arith, mul-pos (s₁ .some) p₂) in
         let r : d - u₂ * T₁ ≡ u₁ * T₂ = omega arith in
         let F : Held → Fraction = λ h. mass t (preliminary (Two T₁ T₂) ls h) in
-        let inner : (a : ℕ) → a < length ls → overHangs 2 T₂ ls (λ y. F (heldOf (here a) y)) ≈ (u₁ * T₂ * C₂ + (u₂ * (u₂ * T₁) + E₂ * d) * c a) // (T₂ * d)
+        let inner : (a : ℕ) → a < length ls → overInitial 2 T₂ ls (λ y. F (heldOf (here a) y)) ≈ (u₁ * T₂ * C₂ + (u₂ * (u₂ * T₁) + E₂ * d) * c a) // (T₂ * d)
         = λ a l. ≈-num (ap (λ s. s + E₂ * (c a * d)) (passing-mixed 2 ls c (u₂ * T₁ * c a) (u₁ * T₂)) ∙ omega arith)
-        (hangs-same 2 T₂ ls p₂ (λ y. F (heldOf (here a) y)) {x = λ b. u₂ * T₁ * c a + u₁ * T₂ * c b} {y = c a * d} {R = d} p
-        (λ b k. rw (r, hc a l, hc b k) at (both (λ i. t (place i)) (u₂ * T₁) d a b p (omega arith)))
+        (initial-same 2 T₂ ls p₂ (λ y. F (heldOf (here a) y)) {x = λ b. u₂ * T₁ * c a + u₁ * T₂ * c b} {y = c a * d} {R = d} p
+        (λ b k. rw (r, hc a l, hc b k) at (both (λ i. t (unitAt i)) (u₂ * T₁) d a b p (omega arith)))
         (rw (hc a l) (scaled p))) in
-        let outer : overHangs 2 T₂ ls (λ y. F (heldOf elsewhere y)) ≈ (u₂ * 0 + d * C₂ + E₂ * (z * d)) // (T₂ * d)
+        let outer : overInitial 2 T₂ ls (λ y. F (heldOf elsewhere y)) ≈ (u₂ * 0 + d * C₂ + E₂ * (z * d)) // (T₂ * d)
         = ≈-num (ap (λ s. s + E₂ * (z * d)) (passing-mixed 2 ls c 0 d))
-        (hangs-same 2 T₂ ls p₂ (λ y. F (heldOf elsewhere y)) {x = λ b. 0 + d * c b} {y = z * d} {R = d} p
+        (initial-same 2 T₂ ls p₂ (λ y. F (heldOf elsewhere y)) {x = λ b. 0 + d * c b} {y = z * d} {R = d} p
         (λ b k. rw (hc b k) (record { cross = omega arith; left = omega arith; right = p })) (rw hz (scaled p))) in
         ≈-num (ap (λ s. s + E₁ * (u₂ * 0 + d * C₂ + E₂ * (z * d))) (passing-mixed 1 ls c (u₁ * T₂ * C₂) (u₂ * (u₂ * T₁) + E₂ * d))
         ∙ two-identity u₁ E₁ u₂ E₂ C₁ C₂ z T₁ T₂ (omega (arith, s₁ .part)) (omega (arith, s₂ .part)))
-        (hangs-same 1 T₁ ls p₁ (λ x. overHangs 2 T₂ ls (λ y. F (heldOf x y))) {x = λ a. u₁ * T₂ * C₂ + (u₂ * (u₂ * T₁) + E₂ * d) * c a} {R = T₂ * d} (mul-pos p₂ p) inner outer)
+        (initial-same 1 T₁ ls p₁ (λ x. overInitial 2 T₂ ls (λ y. F (heldOf x y))) {x = λ a. u₁ * T₂ * C₂ + (u₂ * (u₂ * T₁) + E₂ * d) * c a} {R = T₂ * d} (mul-pos p₂ p) inner outer)
 
 -- ---- the preliminary lift, given that a held lift is here: X of Z
 
 -- the test passes for the lift at place i alone
 pub record Only (n i : ℕ) (t : Preliminary → Bool) : Type 0 where
-  pub places : (a : ℕ) → a < n → indicator (t (place a)) ≡ indicator (eqb a i)
-  pub nobodys : indicator (t nobody) ≡ 0
+  pub places : (a : ℕ) → a < n → indicator (t (unitAt a)) ≡ indicator (eqb a i)
+  pub nobodys : indicator (t noUnit) ≡ 0
 
 -- the test passes for all places alike, and for nobody
 pub record Alike (n x z : ℕ) (t : Preliminary → Bool) : Type 0 where
-  pub places : (a : ℕ) → a < n → indicator (t (place a)) ≡ x
-  pub nobodys : indicator (t nobody) ≡ z
+  pub places : (a : ℕ) → a < n → indicator (t (unitAt a)) ≡ x
+  pub nobodys : indicator (t noUnit) ≡ z
 
 -- a held lift is here with the mass X / Z, elsewhere with Y / Z, and given that it is here, each lift is preliminary with its old weight over D × S
 pub record Known (ds : Donors) (ls : List Lift) (X Y Z : ℕ) : Type 0 where

@@ -15,7 +15,7 @@ use Rattle.laws.proofs.Sums.{over-ext}
 use Rattle.laws.proofs.Fractions.{≈-refl, ≈-sym, ≈-trans, ⊕-≈, ⊗-≈, ⊗-assoc, sum-≈, sum-cut, sum-part}
 use Rattle.laws.proofs.Masses.{weighed, mass-after, mass-den, mass-hits, mean-classes, every-map, every-after}
 use Rattle.round.specs.Round.{Lift, liftAt, S, D, oldWeight, newWeight, weights, weightAt}
-use Rattle.round.specs.Choice.{Preliminary, nobody, place, selection, fresh, preliminary, keyfitz, select, plan}
+use Rattle.round.specs.Choice.{Preliminary, noUnit, unitAt, selection, fresh, preliminary, keyfitz, select, plan}
 use Rattle.round.specs.Share.{overHeld, chooses, comes, any, share, preliminaryShare, UpdatesTheorem, SharesTheorem}
 use Rattle.round.specs.declared.Donors.{Donors}
 use Rattle.round.specs.declared.Donors.the-variants.{None, One, Two}
@@ -23,7 +23,7 @@ use Rattle.round.specs.declared.Held.{Held}
 use Rattle.round.specs.declared.Held.the-variants.{Neither, Single, Both}
 use Rattle.round.proofs.Weights.{old-sum, new-sum, one-positive, two-positive}
 use Rattle.round.proofs.Keyfitz.{drawable, updated}
-use Rattle.round.proofs.Hanging.{Inside, Sums, held-≈, held-mix, held-whole}
+use Rattle.round.proofs.Initials.{Inside, Sums, held-≈, held-mix, held-whole}
 use Rattle.round.proofs.Preliminaries.{Only, Alike, Known, known-one, known-two}
 
 -- ---- Keyfitz's update of a preliminary unit that comes with its old weight
@@ -63,11 +63,11 @@ length-weights ds ls = length-map ls _
 -- ---- classes of the preliminary lift: its place, or n for nobody
 
 class : ℕ → Preliminary → ℕ
-class n nobody = n
-class n (place i) = i
+class n noUnit = n
+class n (unitAt i) = i
 
 named : ℕ → ℕ → Preliminary
-named n i = cond (ltb i n) (place i) nobody
+named n i = cond (ltb i n) (unitAt i) noUnit
 
 class-only : (n i : ℕ) → i < n → Only n i (λ a. eqb (class n a) i)
 unfolding class
@@ -79,8 +79,8 @@ class-none n = record { places = λ a k. rw (ne-eqb a n (omega arith)); nobodys 
 
 -- a place below n, or nobody
 abbrev pub Placed : ℕ → Preliminary → Type 0
-Placed n nobody = Unit {0}
-Placed n (place i) = i < n
+Placed n noUnit = Unit {0}
+Placed n (unitAt i) = i < n
 
 pub every-preliminary : (ds : Donors) (ls : List Lift) (n : ℕ) → 0 < D ds ls → (h : Held) → Inside n h → Every (Placed n) (preliminary ds ls h)
 unfolding Every preliminary
@@ -125,8 +125,8 @@ every-update ds ls q p i l =
 
 pub every-select : (ds : Donors) (ls : List Lift) → 0 < S ls → 0 < D ds ls → (a : Preliminary) → Placed (length ls) a → Drawable (select ds ls a)
 unfolding select
-every-select ds ls q p nobody l = every-fresh ls q
-every-select ds ls q p (place i) l = every-update ds ls q p i l
+every-select ds ls q p noUnit l = every-fresh ls q
+every-select ds ls q p (unitAt i) l = every-update ds ls q p i l
 
 pub every-plan : (ds : Donors) (ls : List Lift) → 0 < S ls → 0 < D ds ls → (h : Held) → Inside (length ls) h → Drawable (plan ds ls h)
 unfolding plan
@@ -142,23 +142,23 @@ module _ (ds : Donors) (ls : List Lift) (q : 0 < S ls) (p : 0 < D ds ls) (sums :
   unfolding follows named select
   follows-place j i l = rw (lt-ltb i (length ls) l)
 
-  follows-nobody : (j : ℕ) → follows j (length ls) ≡ mass (chooses j) (fresh ls)
+  follows-none : (j : ℕ) → follows j (length ls) ≡ mass (chooses j) (fresh ls)
   unfolding follows named select
-  follows-nobody j = rw (le-ltb (length ls) (length ls) (omega arith))
+  follows-none j = rw (le-ltb (length ls) (length ls) (omega arith))
 
   follows-den : (j i : ℕ) → i < length ls + 1 → 0 < follows j i .den
   unfolding follows named
   follows-den j i l = go (ltb i (length ls)) refl
     where
-      go : (b : Bool) → ltb i (length ls) ≡ b → 0 < mass (chooses j) (select ds ls (cond b (place i) nobody)) .den
-      go true e = mass-den (λ _. Unit {0}) (chooses j) (select ds ls (place i)) (every-select ds ls q p (place i) (ltb-true i (length ls) e))
-      go false e = mass-den (λ _. Unit {0}) (chooses j) (select ds ls nobody) (every-select ds ls q p nobody tt)
+      go : (b : Bool) → ltb i (length ls) ≡ b → 0 < mass (chooses j) (select ds ls (cond b (unitAt i) noUnit)) .den
+      go true e = mass-den (λ _. Unit {0}) (chooses j) (select ds ls (unitAt i)) (every-select ds ls q p (unitAt i) (ltb-true i (length ls) e))
+      go false e = mass-den (λ _. Unit {0}) (chooses j) (select ds ls noUnit) (every-select ds ls q p noUnit tt)
 
   matched : (j : ℕ) (a : Preliminary) → Placed (length ls) a
       → (class (length ls) a < length ls + 1) × (mass (chooses j) (select ds ls a) ≈ follows j (class (length ls) a))
   unfolding class select
-  matched j nobody l = (omega arith, rw (follows-nobody j) (≈-refl (mass-den (λ _. Unit {0}) (chooses j) (fresh ls) (every-select ds ls q p nobody tt))))
-  matched j (place i) l = (omega arith, rw (follows-place j i l) (≈-refl (mass-den (λ _. Unit {0}) (chooses j) (keyfitz (weights ds ls) i) (every-update ds ls q p i l))))
+  matched j noUnit l = (omega arith, rw (follows-none j) (≈-refl (mass-den (λ _. Unit {0}) (chooses j) (fresh ls) (every-select ds ls q p noUnit tt))))
+  matched j (unitAt i) l = (omega arith, rw (follows-place j i l) (≈-refl (mass-den (λ _. Unit {0}) (chooses j) (keyfitz (weights ds ls) i) (every-update ds ls q p i l))))
 
   -- by total probability over the preliminary lift
   plan-mix : (j : ℕ) (h : Held) → Inside (length ls) h
@@ -174,7 +174,7 @@ module _ (ds : Donors) (ls : List Lift) (q : 0 < S ls) (p : 0 < D ds ls) (sums :
   plan-whole : overHeld ds ls (λ h. weight (λ _. true) (paths (plan ds ls h))) ≈ overHeld ds ls (λ h. 1 // 1)
   plan-whole = held-≈ ds ls sums _ _ (λ h u. weighed (λ _. true) (plan ds ls h) (every-plan ds ls q p h u) .whole)
 
-  -- the mass of each class, over where the held lifts hang
+  -- the mass of each class, over the initial selections
   classed : ℕ → Fraction
   classed i = overHeld ds ls (λ h. mass (λ a. eqb (class (length ls) a) i) (preliminary ds ls h))
 
@@ -208,7 +208,7 @@ module _ (ds : Donors) (ls : List Lift) (q : 0 < S ls) (p : 0 < D ds ls) (sums :
         let n = length ls in
         let e : n + 0 ≡ n = omega arith in
         let r : classed n ⊗ follows j n ≈ Y // Z ⊗ liftAt ls j .new // S ls
-        = ⊗-≈ (k .none (λ a. eqb (class n a) n) (class-none n)) (rw (follows-nobody j) (mass-fresh ls j l q)) in
+        = ⊗-≈ (k .none (λ a. eqb (class n a) n) (class-none n)) (rw (follows-none j) (mass-fresh ls j l q)) in
         let r′ : classed (n + 0) ⊗ follows j (n + 0) ≈ Y // Z ⊗ liftAt ls j .new // S ls = rw e r in
         ≈-trans (first-only (λ i. classed (n + i) ⊗ follows j (n + i)) (r′ .left)) r′
 

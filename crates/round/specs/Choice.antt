@@ -5,7 +5,8 @@ use mathlib.Core.List.{List, map}
 use lib.Dec.{leb, ltb, eqb}
 use Rattle.laws.specs.Interval.{pick}
 use Rattle.laws.specs.Plan.{Plan, done, draw, after}
-use Rattle.draw.specs.Run.{Run, ended, short}
+use Rattle.draw.specs.Draw.{largest}
+use Rattle.draw.specs.Run.{Run, ended, short, run}
 use Rattle.round.specs.Round.{Lift, S, U, D, Weight, weights, weightAt, growth, G}
 use Rattle.round.specs.declared.Donors.{Donors}
 use Rattle.round.specs.declared.Donors.the-variants.{None, One, Two}
@@ -16,8 +17,8 @@ use Rattle.round.specs.declared.Selected.the-variants.{At, Short}
 
 -- the place of the preliminary lift, or that there is none
 pub data Preliminary : Type 0 where
-  nobody : Preliminary
-  place : ℕ → Preliminary
+  noUnit : Preliminary
+  unitAt : ℕ → Preliminary
 
 -- the place of the chosen lift, and whether a preliminary lift was dropped for it
 pub record Selection : Type 0 where
@@ -37,17 +38,20 @@ firstOdds None ls = 0
 firstOdds (One T) ls = 0
 firstOdds (Two T₁ T₂) ls = U 2 ls * T₁
 
--- "One held lift here: it is preliminary. Two held lifts here: draw v below D. If v is less than U2 × T1, donor 1's lift is preliminary, else donor 2's."
+-- "One held lift here: it is preliminary. Two held lifts here: draw v below D. If v is less than U2 × T1, donor 1's lift is
+-- preliminary, else donor 2's."
 unfoldable pub preliminary : Donors → List Lift → Held → Plan Preliminary
-preliminary ds ls Neither = done nobody
-preliminary ds ls (Single i) = done (place i)
-preliminary ds ls (Both i j) = draw (D ds ls) (λ v. done (place (cond (ltb v (firstOdds ds ls)) i j)))
+preliminary ds ls Neither = done noUnit
+preliminary ds ls (Single i) = done (unitAt i)
+preliminary ds ls (Both i j) = draw (D ds ls) (λ v. done (unitAt (cond (ltb v (firstOdds ds ls)) i j)))
 
--- "The preliminary lift stays with no draw if its growth is 0 or more. Otherwise draw r below its old weight; it stays if r is less than its new weight."
+-- "The preliminary lift stays with no draw if its growth is 0 or more. Otherwise draw r below its old weight; it stays if r is
+-- less than its new weight."
 unfoldable pub stayOr : {A : Type 0} → Weight → Plan A → Plan A → Plan A
 stayOr w stay move = cond (leb (w .old) (w .new)) stay (draw (w .old) (λ r. cond (ltb r (w .new)) stay move))
 
--- "If it is dropped, draw q below G and take the lift in whose stretch q falls, the growths above zero laid end to end in lift order."
+-- "If it is dropped, draw q below G and take the lift in whose stretch q falls, the growths above zero laid end to end in lift
+-- order."
 unfoldable pub replacement : List Weight → Plan Selection
 replacement ws = draw (G ws) (λ q. done (selection (pick (map growth ws) q) true))
 
@@ -57,8 +61,8 @@ keyfitz ws i = stayOr (weightAt ws i) (done (selection i false)) (replacement ws
 
 -- what follows for each preliminary lift
 unfoldable pub select : Donors → List Lift → Preliminary → Plan Selection
-select ds ls nobody = fresh ls
-select ds ls (place i) = keyfitz (weights ds ls) i
+select ds ls noUnit = fresh ls
+select ds ls (unitAt i) = keyfitz (weights ds ls) i
 
 -- the round's choice, from the round and its held lifts: neither, one or both here
 unfoldable pub plan : Donors → List Lift → Held → Plan Selection
@@ -78,3 +82,7 @@ outcome h s = cond (isHeld h (s .place)) 1 (cond (s .dropped) 2 3)
 abbrev pub answer : Held → Run Selection → Selected
 answer h (ended vs s next) = At (s .place) (outcome h s) next
 answer h short = Short
+
+-- the choice from the random words ws, read from a position on
+abbrev pub selected : Donors → List Lift → Held → List ℕ → ℕ → Selected
+selected ds ls h ws at = answer h (run largest ws at (plan ds ls h))

@@ -16,7 +16,8 @@ use Rattle.round.specs.declared.Donors.the-variants.{One}
 unfoldable pub kept : Donors → List Lift → Fraction
 kept ds ls = overHeld ds ls (λ h. weight (λ s. isHeld h (s .place)) (paths (plan ds ls h)))
 
--- "A rule is any grid of whole tickets, 0 or more in each place, held lift by chosen lift, whose rows sum to the old weights times one whole number and whose columns sum to the new weights times the same."
+-- a coupling of the old and the new weights: "A rule is any grid of whole tickets, 0 or more in each place, held lift by chosen lift,
+-- whose rows sum to the old weights times one whole number and whose columns sum to the new weights times the same."
 pub record Coupling (ws : List Weight) (times : ℕ) (grid : ℕ → ℕ → ℕ) : Type 0 where
   pub rows : (i : ℕ) → i < length ws → Σ (length ws) (λ j. grid i j) ≡ weightAt ws i .old * times
   pub columns : (j : ℕ) → j < length ws → Σ (length ws) (λ i. grid i j) ≡ weightAt ws j .new * times
@@ -29,7 +30,8 @@ tickets n grid = Σ n (λ i. Σ n (λ j. grid i j))
 abbrev pub keptTickets : ℕ → (ℕ → ℕ → ℕ) → ℕ
 keptTickets n grid = Σ n (λ i. grid i i)
 
--- "In a round with one donor and U = T, every rule keeps at most as many tickets as all its tickets times what the ways weigh whose lift is held in their own marking."
+-- "In a round with one donor and U = T, every rule keeps at most as many tickets as all its tickets times what the ways weigh
+-- whose lift is held in their own marking."
 pub record Keeps (T : ℕ) (ls : List Lift) : Type 0 where
   pub most : (times : ℕ) (grid : ℕ → ℕ → ℕ) → Coupling (weights (One T) ls) times grid
       → keptTickets (length ls) grid * kept (One T) ls .den ≤ tickets (length ls) grid * kept (One T) ls .num

@@ -36,7 +36,7 @@ D None ls = 0
 D (One T) ls = U 1 ls
 D (Two T₁ T₂) ls = U 1 ls * T₂ + U 2 ls * T₁
 
--- "a lift's old weight is m × S"; with two donors "m × T(other donor) × S"
+-- "a lift's old weight is m × S"; with two donors "m × T(other donor) × S": a lift of old measure above 0 comes from one donor
 unfoldable pub oldWeight : Donors → List Lift → Lift → ℕ
 oldWeight None ls l = 0
 oldWeight (One T) ls l = sent 1 l * S ls
@@ -67,7 +67,8 @@ growth w = w .new - w .old
 unfoldable pub G : List Weight → ℕ
 G ws = total (map growth ws)
 
--- "Old round t is a donor of a new round if it sends it a lift of old measure above 0": so U of donor k is above 0, and it is a part of the donor's whole old sum T
+-- "Old round t is a donor of a new round if it sends it a lift of old measure above 0": U of donor k is above 0, and a part of
+-- the donor's whole old sum T
 pub record Sends (k T : ℕ) (ls : List Lift) : Type 0 where
   pub some : 0 < U k ls
   pub part : U k ls ≤ T

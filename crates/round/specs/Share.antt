@@ -1,4 +1,4 @@
--- What the paths of a round weigh, over where its donors' held lifts may hang ("What demand 3 weighs" of document 01, for one round).
+-- What the paths of a round weigh over all initial selections of its donors ("What demand 3 weighs" of document 01, for one round).
 use Prim.Native.Nat.{ℕ, _-_, _*_, _<_}
 use mathlib.Core.Path.{_≡_}
 use mathlib.Core.Bool.{Bool, true, false}
@@ -9,33 +9,35 @@ use Rattle.laws.specs.Sum.{total}
 use Rattle.laws.specs.Fraction.{Fraction, _//_, _⊕_, _⊗_, _≈_, sum}
 use Rattle.laws.specs.Plan.{Plan, after, Every, paths, weight}
 use Rattle.round.specs.Round.{Lift, liftAt, S, sent, U, D, oldWeight, Weight, weightAt, Fitting}
-use Rattle.round.specs.Choice.{Preliminary, nobody, place, Selection, preliminary, keyfitz, plan}
+use Rattle.round.specs.Choice.{Preliminary, noUnit, unitAt, Selection, preliminary, keyfitz, plan}
 use Rattle.round.specs.declared.Donors.{Donors}
 use Rattle.round.specs.declared.Donors.the-variants.{None, One, Two}
 use Rattle.round.specs.declared.Held.{Held}
 use Rattle.round.specs.declared.Held.the-variants.{Neither, Single, Both}
 
--- where a donor's held lift hangs: at a place of this round, or in another round
-pub data Hangs : Type 0 where
-  here : ℕ → Hangs
-  elsewhere : Hangs
+-- a donor's initial selection, its held lift (the document's marking, for one donor): at a place of this round, or in another round
+pub data Initial : Type 0 where
+  here : ℕ → Initial
+  elsewhere : Initial
 
--- the held lifts in this round, from where those of donor 1 and of donor 2 hang
-abbrev pub heldOf : Hangs → Hangs → Held
+-- the held lifts in this round, from the initial selections of donor 1 and donor 2
+abbrev pub heldOf : Initial → Initial → Held
 heldOf elsewhere elsewhere = Neither
 heldOf (here i) elsewhere = Single i
 heldOf elsewhere (here j) = Single j
 heldOf (here i) (here j) = Both i j
 
--- the mean of f over where the held lift of donor k hangs: "A marking names one lift of old measure above 0 in each old round", each by its old measure over the donor's whole old sum T
-unfoldable pub overHangs : ℕ → ℕ → List Lift → (Hangs → Fraction) → Fraction
-overHangs k T ls f = sum (length ls) (λ i. sent k (liftAt ls i) // T ⊗ f (here i)) ⊕ (T - U k ls) // T ⊗ f elsewhere
+-- the mean of f over the initial selections of donor k: "A marking names one lift of old measure above 0 in each old round",
+-- each by its old measure over the donor's whole old sum T
+unfoldable pub overInitial : ℕ → ℕ → List Lift → (Initial → Fraction) → Fraction
+overInitial k T ls f = sum (length ls) (λ i. sent k (liftAt ls i) // T ⊗ f (here i)) ⊕ (T - U k ls) // T ⊗ f elsewhere
 
--- the mean of f over the held lifts in this round: donors are independent, "the product of the held lifts' old measures over the product of all old sums"
+-- the mean of f over the held lifts in this round: donors are independent,
+-- "the product of the held lifts' old measures over the product of all old sums"
 unfoldable pub overHeld : Donors → List Lift → (Held → Fraction) → Fraction
 overHeld None ls f = f Neither
-overHeld (One T) ls f = overHangs 1 T ls (λ x. f (heldOf x elsewhere))
-overHeld (Two T₁ T₂) ls f = overHangs 1 T₁ ls (λ x. overHangs 2 T₂ ls (λ y. f (heldOf x y)))
+overHeld (One T) ls f = overInitial 1 T ls (λ x. f (heldOf x elsewhere))
+overHeld (Two T₁ T₂) ls f = overInitial 1 T₁ ls (λ x. overInitial 2 T₂ ls (λ y. f (heldOf x y)))
 
 -- whether the lift at place j is chosen
 abbrev pub chooses : ℕ → Selection → Bool
@@ -43,13 +45,13 @@ chooses j s = eqb (s .place) j
 
 -- whether the lift at place i is preliminary
 abbrev pub comes : ℕ → Preliminary → Bool
-comes i nobody = false
-comes i (place a) = eqb a i
+comes i noUnit = false
+comes i (unitAt a) = eqb a i
 
 -- whether a lift is preliminary at all
 abbrev pub any : Preliminary → Bool
-any nobody = false
-any (place a) = true
+any noUnit = false
+any (unitAt a) = true
 
 -- what the paths weigh together that choose the lift at place j
 unfoldable pub share : Donors → List Lift → ℕ → Fraction
@@ -59,7 +61,7 @@ share ds ls j = overHeld ds ls (λ h. weight (chooses j) (paths (plan ds ls h)))
 unfoldable pub preliminaryShare : Donors → List Lift → (Preliminary → Bool) → Fraction
 preliminaryShare ds ls t = overHeld ds ls (λ h. weight t (paths (preliminary ds ls h)))
 
--- Keyfitz's update keeps proportions: if the preliminary unit comes with its old weight over the sum N, the chosen one comes with its new weight over N
+-- Keyfitz's update: if the preliminary unit comes with its old weight over the sum N, the chosen one comes with its new weight over N
 pub record Updates (ws : List Weight) (N : ℕ) : Type 0 where
   pub updated : (p : Plan ℕ) → Every (λ i. i < length ws) p
       → ((i : ℕ) → i < length ws → weight (λ a. eqb a i) (paths p) ≈ weightAt ws i .old // N)

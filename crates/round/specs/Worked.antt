@@ -4,11 +4,10 @@ use mathlib.Core.Bool.{Bool, true, false, _&&_}
 use mathlib.Core.List.{List, [], _∷_}
 use lib.Dec.{eqb}
 use Rattle.draw.specs.Draw.{largest, drawAt}
-use Rattle.draw.specs.Run.{run}
 use Rattle.draw.specs.declared.Drawn.{Drawn}
 use Rattle.draw.specs.declared.Drawn.the-variants.{Value, Short as Ended}
 use Rattle.round.specs.Round.{Lift}
-use Rattle.round.specs.Choice.{plan, answer}
+use Rattle.round.specs.Choice.{selected}
 use Rattle.round.specs.Slices.{lift}
 use Rattle.round.specs.declared.Donors.{Donors}
 use Rattle.round.specs.declared.Donors.the-variants.{One, Two}
@@ -36,7 +35,7 @@ sameDrawn Ended Ended = true
 
 -- whether the definitions give the answer
 abbrev pub right : Case → Bool
-right (chosen ds ls h ws a) = sameSelected (answer h (run largest ws 0 (plan ds ls h))) a
+right (chosen ds ls h ws a) = sameSelected (selected ds ls h ws 0) a
 right (drawn b ws a) = sameDrawn (drawAt largest ws 0 b) a
 
 abbrev pub allRight : List Case → Bool

@@ -8,7 +8,7 @@ ghost use Rattle.laws.specs.Interval.{pick as pickOf};
 ghost use Rattle.draw.specs.Draw.{largest};
 ghost use Rattle.draw.specs.Run.{run};
 ghost use Rattle.round.specs.Round.{U, G, growth, sent, Fitting};
-ghost use Rattle.round.specs.Choice.{firstOdds, keyfitz, plan, isHeld, outcome as outcomeOf, selection, answer};
+ghost use Rattle.round.specs.Choice.{firstOdds, keyfitz, isHeld, outcome as outcomeOf, selection, answer, selected};
 ghost use Rattle.round.specs.Slices.{lift, lifts, Level, multiplierOf, scaled, scaleOf, Room, Balanced, Bounded, Callable, drawGrowth};
 use draw::Drawn;
 
@@ -277,7 +277,7 @@ fn select_of_two(
 ) -> Selected
     requires { ⌜ Level (now old) (now donor) (now new) ⌝ }
     requires { ⌜ Callable donors (lifts (now old) (now donor) (now new)) (Held.Both i j) ⌝ }
-    ensures { λ r. ⌜ r ≡ answer (Held.Both i j) (run largest (now (words .entry)) at (plan donors (lifts (now (old .entry)) (now (donor .entry)) (now (new .entry))) (Held.Both i j))) ⌝ }
+    ensures { λ r. ⌜ r ≡ selected donors (lifts (now (old .entry)) (now (donor .entry)) (now (new .entry))) (Held.Both i j) (now (words .entry)) at ⌝ }
 {
     let held = Held::Both(i, j);
     let s = scaling(old, donor, new, donors);
@@ -305,7 +305,7 @@ pub fn select(
 ) -> Selected
     requires { ⌜ Level (now old) (now donor) (now new) ⌝ }
     requires { ⌜ Callable donors (lifts (now old) (now donor) (now new)) held ⌝ }
-    ensures { λ r. ⌜ r ≡ answer held (run largest (now (words .entry)) at (plan donors (lifts (now (old .entry)) (now (donor .entry)) (now (new .entry))) held)) ⌝ }
+    ensures { λ r. ⌜ r ≡ selected donors (lifts (now (old .entry)) (now (donor .entry)) (now (new .entry))) held (now (words .entry)) at ⌝ }
 {
     match held {
         Held::Neither => draw_lift(WHOLLY, old, donor, new, held, false, words, at),

@@ -1,7 +1,6 @@
 -- `exports::jengpilo_round_select` meets its contract: what `select` ensures, by the two cases of its answer. Assumes nothing.
 use borrow.Author.Needs.{needs}
 use mathlib.Core.Path.{sym, _∙_}
-use Rattle.draw.specs.Draw.{largest}
 use Rattle.exports.proofs.Replies.{chose-at, chose-short, by-enums, answer-by-enums}
 use Rattle.exports.proofs.jengpilo_round_select.Statement.{statement}
 use Rattle.exports.proofs.jengpilo_round_select.Tie as tie
@@ -24,12 +23,12 @@ enum-told c = search needs
 returns : tie.Need-returns
 returns c =
     let b = c .before .before .before in
-    chose-at (sym (c .before .selected .given .1) ∙ answer-by-enums _ largest _ _ (b .before .before .donors-of .ensures) (b .before .held-of .ensures) (b .select .ensures))
+    chose-at (sym (c .before .selected .given .1) ∙ answer-by-enums _ _ _ (b .before .before .donors-of .ensures) (b .before .held-of .ensures) (b .select .ensures))
 
 returns-2 : tie.Need-returns-2
 returns-2 c =
     let b = c .before .before in
-    chose-short (sym (c .enum-told .given .1) ∙ answer-by-enums _ largest _ _ (b .before .before .donors-of .ensures) (b .before .held-of .ensures) (b .select .ensures))
+    chose-short (sym (c .enum-told .given .1) ∙ answer-by-enums _ _ _ (b .before .before .donors-of .ensures) (b .before .held-of .ensures) (b .select .ensures))
 
 pub jengpilo-round-select-spec : {M : Type 1} → statement M
 jengpilo-round-select-spec =

@@ -1,4 +1,4 @@
--- Laws of the mean over where the held lifts hang: it goes along with equality, and mixtures of mixtures can be sorted.
+-- Laws of the mean over the initial selections: it goes along with equality, and mixtures of mixtures can be sorted.
 use Prim.Native.Nat.{ℕ, _+_, _*_, _-_, _<_}
 use mathlib.Core.Path.{_≡_, ap, _∙_}
 use mathlib.Core.List.{List}
@@ -10,7 +10,7 @@ use Rattle.laws.specs.Fraction.{Fraction, _//_, _⊗_, _≈_, sum}
 use Rattle.laws.proofs.Sums.{Σ-mul, Σ-map}
 use Rattle.laws.proofs.Fractions.{≈-refl, ≈-sym, ≈-trans, ≈-num, ⊕-≈, ⊕-same, ⊗-≈, ⊗-assoc, ⊗-distrib-right, sum-≈, sum-den, sum-same, sum-add, sum-part, sum-mix}
 use Rattle.round.specs.Round.{Lift, liftAt, sent, U, Sends, Donate}
-use Rattle.round.specs.Share.{Hangs, here, elsewhere, heldOf, overHangs, overHeld}
+use Rattle.round.specs.Share.{Initial, here, elsewhere, heldOf, overInitial, overHeld}
 use Rattle.round.specs.declared.Donors.{Donors}
 use Rattle.round.specs.declared.Donors.the-variants.{None, One, Two}
 use Rattle.round.specs.declared.Held.{Held}
@@ -25,20 +25,20 @@ Inside n (Both i j) = (i < n) × (j < n)
 -- ---- one donor
 
 module _ (k T : ℕ) (ls : List Lift) (p : 0 < T) where
-  pub hangs-≈ : (f g : Hangs → Fraction) → ((i : ℕ) → i < length ls → f (here i) ≈ g (here i)) → f elsewhere ≈ g elsewhere → overHangs k T ls f ≈ overHangs k T ls g
-  unfolding overHangs
-  hangs-≈ f g h e = ⊕-≈ (sum-≈ (length ls) (λ i l. ⊗-≈ (≈-refl p) (h i l))) (⊗-≈ (≈-refl p) e)
+  pub initial-≈ : (f g : Initial → Fraction) → ((i : ℕ) → i < length ls → f (here i) ≈ g (here i)) → f elsewhere ≈ g elsewhere → overInitial k T ls f ≈ overInitial k T ls g
+  unfolding overInitial
+  initial-≈ f g h e = ⊕-≈ (sum-≈ (length ls) (λ i l. ⊗-≈ (≈-refl p) (h i l))) (⊗-≈ (≈-refl p) e)
 
   -- over one denominator
-  pub hangs-same : (f : Hangs → Fraction) {x : ℕ → ℕ} {y R : ℕ} → 0 < R → ((i : ℕ) → i < length ls → f (here i) ≈ x i // R) → f elsewhere ≈ y // R
-      → overHangs k T ls f ≈ (Σ (length ls) (λ i. sent k (liftAt ls i) * x i) + (T - U k ls) * y) // (T * R)
-  unfolding overHangs
-  hangs-same f q h e = ⊕-same (sum-same (length ls) (mul-pos p q) (λ i l. ⊗-≈ (≈-refl p) (h i l))) (⊗-≈ (≈-refl p) e)
+  pub initial-same : (f : Initial → Fraction) {x : ℕ → ℕ} {y R : ℕ} → 0 < R → ((i : ℕ) → i < length ls → f (here i) ≈ x i // R) → f elsewhere ≈ y // R
+      → overInitial k T ls f ≈ (Σ (length ls) (λ i. sent k (liftAt ls i) * x i) + (T - U k ls) * y) // (T * R)
+  unfolding overInitial
+  initial-same f q h e = ⊕-same (sum-same (length ls) (mul-pos p q) (λ i l. ⊗-≈ (≈-refl p) (h i l))) (⊗-≈ (≈-refl p) e)
 
-  pub hangs-mix : (m : ℕ) (a : Hangs → ℕ → Fraction) (g : ℕ → Fraction) → ((x : Hangs) (i : ℕ) → i < m → 0 < a x i .den) → ((i : ℕ) → i < m → 0 < g i .den)
-      → overHangs k T ls (λ x. sum m (λ i. a x i ⊗ g i)) ≈ sum m (λ i. overHangs k T ls (λ x. a x i) ⊗ g i)
-  unfolding overHangs
-  hangs-mix m a g u v =
+  pub initial-mix : (m : ℕ) (a : Initial → ℕ → Fraction) (g : ℕ → Fraction) → ((x : Initial) (i : ℕ) → i < m → 0 < a x i .den) → ((i : ℕ) → i < m → 0 < g i .den)
+      → overInitial k T ls (λ x. sum m (λ i. a x i ⊗ g i)) ≈ sum m (λ i. overInitial k T ls (λ x. a x i) ⊗ g i)
+  unfolding overInitial
+  initial-mix m a g u v =
       let n = length ls in
       let w : ℕ → Fraction = λ h. sent k (liftAt ls h) // T in let z : Fraction = (T - U k ls) // T in
       let A : ℕ → Fraction = λ i. sum n (λ h. w h ⊗ a (here h) i) in
@@ -60,39 +60,39 @@ Sums (Two T₁ T₂) = (0 < T₁) × (0 < T₂)
 pub held-≈ : (ds : Donors) (ls : List Lift) → Sums ds → (f g : Held → Fraction) → ((h : Held) → Inside (length ls) h → f h ≈ g h) → overHeld ds ls f ≈ overHeld ds ls g
 unfolding overHeld
 held-≈ None ls p f g h = h Neither tt
-held-≈ (One T) ls p f g h = hangs-≈ 1 T ls p _ _ (λ i l. h (Single i) l) (h Neither tt)
+held-≈ (One T) ls p f g h = initial-≈ 1 T ls p _ _ (λ i l. h (Single i) l) (h Neither tt)
 held-≈ (Two T₁ T₂) ls p f g h =
-    hangs-≈ 1 T₁ ls (p .0) _ _ (λ i l. hangs-≈ 2 T₂ ls (p .1) _ _ (λ j k. h (Both i j) (l, k)) (h (Single i) l))
-    (hangs-≈ 2 T₂ ls (p .1) _ _ (λ j k. h (Single j) k) (h Neither tt))
+    initial-≈ 1 T₁ ls (p .0) _ _ (λ i l. initial-≈ 2 T₂ ls (p .1) _ _ (λ j k. h (Both i j) (l, k)) (h (Single i) l))
+    (initial-≈ 2 T₂ ls (p .1) _ _ (λ j k. h (Single j) k) (h Neither tt))
 
-pub hangs-den : (k T : ℕ) (ls : List Lift) (f : Hangs → Fraction) → 0 < T → ((x : Hangs) → 0 < f x .den) → 0 < overHangs k T ls f .den
-hangs-den k T ls f p h = hangs-≈ k T ls p f f (λ i l. ≈-refl (h (here i))) (≈-refl (h elsewhere)) .left
+pub initial-den : (k T : ℕ) (ls : List Lift) (f : Initial → Fraction) → 0 < T → ((x : Initial) → 0 < f x .den) → 0 < overInitial k T ls f .den
+initial-den k T ls f p h = initial-≈ k T ls p f f (λ i l. ≈-refl (h (here i))) (≈-refl (h elsewhere)) .left
 
 pub held-mix : (ds : Donors) (ls : List Lift) → Sums ds → (m : ℕ) (a : Held → ℕ → Fraction) (g : ℕ → Fraction) → ((h : Held) (i : ℕ) → i < m → 0 < a h i .den)
     → ((i : ℕ) → i < m → 0 < g i .den) → overHeld ds ls (λ h. sum m (λ i. a h i ⊗ g i)) ≈ sum m (λ i. overHeld ds ls (λ h. a h i) ⊗ g i)
 unfolding overHeld
 held-mix None ls p m a g u v = ≈-refl (sum-den m (λ i. a Neither i ⊗ g i) (λ i l. mul-pos (u Neither i l) (v i l)))
-held-mix (One T) ls p m a g u v = hangs-mix 1 T ls p m (λ x. a (heldOf x elsewhere)) g (λ x. u (heldOf x elsewhere)) v
+held-mix (One T) ls p m a g u v = initial-mix 1 T ls p m (λ x. a (heldOf x elsewhere)) g (λ x. u (heldOf x elsewhere)) v
 held-mix (Two T₁ T₂) ls p m a g u v =
-    let inner : (x : Hangs) → overHangs 2 T₂ ls (λ y. sum m (λ i. a (heldOf x y) i ⊗ g i)) ≈ sum m (λ i. overHangs 2 T₂ ls (λ y. a (heldOf x y) i) ⊗ g i)
-    = λ x. hangs-mix 2 T₂ ls (p .1) m (λ y. a (heldOf x y)) g (λ y. u (heldOf x y)) v in
-    ≈-trans (hangs-≈ 1 T₁ ls (p .0) _ (λ x. sum m (λ i. overHangs 2 T₂ ls (λ y. a (heldOf x y) i) ⊗ g i)) (λ i l. inner (here i)) (inner elsewhere))
-    (hangs-mix 1 T₁ ls (p .0) m (λ x i. overHangs 2 T₂ ls (λ y. a (heldOf x y) i)) g (λ x i l. hangs-den 2 T₂ ls _ (p .1) (λ y. u (heldOf x y) i l)) v)
+    let inner : (x : Initial) → overInitial 2 T₂ ls (λ y. sum m (λ i. a (heldOf x y) i ⊗ g i)) ≈ sum m (λ i. overInitial 2 T₂ ls (λ y. a (heldOf x y) i) ⊗ g i)
+    = λ x. initial-mix 2 T₂ ls (p .1) m (λ y. a (heldOf x y)) g (λ y. u (heldOf x y)) v in
+    ≈-trans (initial-≈ 1 T₁ ls (p .0) _ (λ x. sum m (λ i. overInitial 2 T₂ ls (λ y. a (heldOf x y) i) ⊗ g i)) (λ i l. inner (here i)) (inner elsewhere))
+    (initial-mix 1 T₁ ls (p .0) m (λ x i. overInitial 2 T₂ ls (λ y. a (heldOf x y) i)) g (λ x i l. initial-den 2 T₂ ls _ (p .1) (λ y. u (heldOf x y) i l)) v)
 
 pub sent-all : (k : ℕ) (ls : List Lift) (x : ℕ) → Σ (length ls) (λ i. sent k (liftAt ls i) * x) ≡ U k ls * x
 unfolding U
 sent-all k ls x =
     Σ-mul (length ls) (λ i. sent k (liftAt ls i)) x ∙ ap (λ u. u * x) (Σ-map (sent k) (record { old = 0; donor = 0; new = 0 }) ls)
 
-hangs-whole : (k T : ℕ) (ls : List Lift) → Sends k T ls → (f : Hangs → Fraction) → ((x : Hangs) → f x ≈ 1 // 1) → overHangs k T ls f ≈ 1 // 1
-hangs-whole k T ls s f h =
+initial-whole : (k T : ℕ) (ls : List Lift) → Sends k T ls → (f : Initial → Fraction) → ((x : Initial) → f x ≈ 1 // 1) → overInitial k T ls f ≈ 1 // 1
+initial-whole k T ls s f h =
     let p : 0 < T = omega (arith, s .some, s .part) in
-    ≈-trans (≈-num (ap (λ u. u + (T - U k ls) * 1) (sent-all k ls 1)) (hangs-same k T ls p f {x = λ _. 1} {y = 1} {R = 1} (omega arith) (λ i _. h (here i)) (h elsewhere)))
+    ≈-trans (≈-num (ap (λ u. u + (T - U k ls) * 1) (sent-all k ls 1)) (initial-same k T ls p f {x = λ _. 1} {y = 1} {R = 1} (omega arith) (λ i _. h (here i)) (h elsewhere)))
     (record { cross = omega (arith, s .part); left = omega arith; right = omega arith })
 
--- all the ways in which the held lifts may hang weigh 1 together
+-- all initial selections weigh 1 together
 pub held-whole : (ds : Donors) (ls : List Lift) → Donate ds ls → overHeld ds ls (λ h. 1 // 1) ≈ 1 // 1
 unfolding overHeld
 held-whole None ls s = ≈-refl (omega arith)
-held-whole (One T) ls s = hangs-whole 1 T ls s _ (λ _. ≈-refl (omega arith))
-held-whole (Two T₁ T₂) ls s = hangs-whole 1 T₁ ls (s .0) _ (λ _. hangs-whole 2 T₂ ls (s .1) _ (λ _. ≈-refl (omega arith)))
+held-whole (One T) ls s = initial-whole 1 T ls s _ (λ _. ≈-refl (omega arith))
+held-whole (Two T₁ T₂) ls s = initial-whole 1 T₁ ls (s .0) _ (λ _. initial-whole 2 T₂ ls (s .1) _ (λ _. ≈-refl (omega arith)))
