@@ -12,7 +12,7 @@ use Rattle.draw.specs.Run.{Run, ended, short, drew, run}
 use Rattle.draw.specs.declared.Drawn.{Drawn}
 use Rattle.draw.specs.declared.Drawn.the-variants.{Value, Short as Ended}
 use Rattle.round.specs.Round.{Lift, Weight, growth, G}
-use Rattle.round.specs.Choice.{Selection, selection, firstOdds, stayOr, replacement, keyfitz, plan, outcome, answer}
+use Rattle.round.specs.Choice.{Selection, selection, stayOr, replacement, keyfitz, plan, outcome, answer}
 use Rattle.round.specs.Slices.{lifts, scaled, scaleOf, wholly, drawGrowth}
 use Rattle.round.specs.declared.Donors.{Donors}
 use Rattle.round.specs.declared.Held.{Held}
@@ -20,7 +20,7 @@ use Rattle.round.specs.declared.Held.the-variants.{Neither, Single, Both
 use Rattle.round.specs.declared.Scale.{Scale}
 use Rattle.round.specs.declared.Selected.{Selected}
 use Rattle.round.specs.declared.Selected.the-variants.{At, Short}
-use Rattle.round.proofs.Walks.{Weighed, weight-at}
+use Rattle.round.proofs.Walks.{InSlices, weight-at}
 use Rattle.round.proofs.Scales.{plan-neither, plan-single, plan-both}
 
 drew-answer : (h : Held) (v : ℕ) (r : Run Selection) → answer h (drew v r) ≡ answer h r
@@ -52,7 +52,7 @@ module _ (m : ℕ) (ws : List ℕ) (from : ℕ) (h : Held) where
 
   -- ---- Keyfitz's update
 
-  module _ {s : Scale} {ms ds bs : List ℕ} {i x : ℕ} (w : Weighed s ms ds bs i x) where
+  module _ {s : Scale} {ms ds bs : List ℕ} {i x : ℕ} (w : InSlices s ms ds bs i x) where
     -- it stays with no draw
     pub stays : {o : ℕ} → getD ms i 0 * x ≤ getD bs i 0 * s .new → o ≡ outcome h (selection i false)
         → At i o from ≡ answer h (run m ws from (keyfitz (map (scaled s) (lifts ms ds bs)) i))
@@ -89,14 +89,14 @@ module _ (m : ℕ) (ws : List ℕ) (from : ℕ) (h : Held) where
     single {i} e x = rw (e, plan-single ds ls i, ← scale) x
 
     -- the draw v makes donor 1's lift preliminary
-    pub two-first : (i j : ℕ) {d : Drawn} {v n o : ℕ} {a : Selected} → d ≡ drawAt m ws from (s .new) → d ≡ Value v n → o ≡ firstOdds ds ls → v < o
+    pub two-first : (i j : ℕ) {d : Drawn} {v n : ℕ} {a : Selected} → d ≡ drawAt m ws from (s .new) → d ≡ Value v n → v < s .odds
         → a ≡ answer h (run m ws n (keyfitz (map (scaled s) ls) i)) → a ≡ answer h (run m ws from (plan ds ls (Both i j)))
-    two-first i j e f o l x = rw (plan-both ds ls i j, ← scale, value-answer (s .new) (sym e ∙ f), ← o, lt-ltb _ _ l) x
+    two-first i j e f l x = rw (plan-both ds ls i j, ← scale, value-answer (s .new) (sym e ∙ f), lt-ltb _ _ l) x
 
     -- the draw v makes donor 2's lift preliminary
-    pub two-second : (i j : ℕ) {d : Drawn} {v n o : ℕ} {a : Selected} → d ≡ drawAt m ws from (s .new) → d ≡ Value v n → o ≡ firstOdds ds ls → o ≤ v
+    pub two-second : (i j : ℕ) {d : Drawn} {v n : ℕ} {a : Selected} → d ≡ drawAt m ws from (s .new) → d ≡ Value v n → s .odds ≤ v
         → a ≡ answer h (run m ws n (keyfitz (map (scaled s) ls) j)) → a ≡ answer h (run m ws from (plan ds ls (Both i j)))
-    two-second i j e f o l x = rw (plan-both ds ls i j, ← scale, value-answer (s .new) (sym e ∙ f), ← o, le-ltb _ _ l) x
+    two-second i j e f l x = rw (plan-both ds ls i j, ← scale, value-answer (s .new) (sym e ∙ f), le-ltb _ _ l) x
 
     pub two-short : (i j : ℕ) {d : Drawn} → d ≡ drawAt m ws from (s .new) → d ≡ Ended → Short ≡ answer h (run m ws from (plan ds ls (Both i j)))
     two-short i j e f = rw (plan-both ds ls i j, ← scale, short-answer (s .new) (sym e ∙ f))

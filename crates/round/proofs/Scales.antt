@@ -48,6 +48,12 @@ D-scale None ls = refl
 D-scale (One T) ls = refl
 D-scale (Two T₁ T₂) ls = refl
 
+odds-scale : (ds : Donors) (ls : List Lift) → firstOdds ds ls ≡ scaleOf ds ls .odds
+unfolding firstOdds scaleOf
+odds-scale None ls = refl
+odds-scale (One T) ls = refl
+odds-scale (Two T₁ T₂) ls = refl
+
 weights-scaled : (ds : Donors) (ls : List Lift) → weights ds ls ≡ map (scaled (scaleOf ds ls)) ls
 unfolding weights newWeight
 weights-scaled ds ls =
@@ -91,7 +97,7 @@ whole-positive {ls = ls} f = rw (whole-G ls) (f .positive)
 
 -- one donor: the code's sums are the multipliers
 pub one-scale : {ds : Donors} {T : ℕ} (ls : List Lift) {u x : ℕ} → ds ≡ One T → u ≡ U 1 ls → x ≡ G (map (scaled wholly) ls)
-    → record { new = u; first = x; second = 0 } ≡ scaleOf ds ls
+    → record { new = u; first = x; second = 0; odds = 0 } ≡ scaleOf ds ls
 unfolding scaleOf
 one-scale ls e p q = rw (e, p, q, whole-G)
 
@@ -103,13 +109,9 @@ one-room {T = T} {ls} e f b = go (rw e at f) (rw e at b)
 
 -- two donors: the code's sums and products are the multipliers
 pub two-scale : {ds : Donors} {T₁ T₂ : ℕ} (ls : List Lift) {u v x : ℕ} → ds ≡ Two T₁ T₂ → u ≡ U 1 ls → v ≡ U 2 ls → x ≡ G (map (scaled wholly) ls)
-    → record { new = u * T₂ + v * T₁; first = T₂ * x; second = T₁ * x } ≡ scaleOf ds ls
+    → record { new = u * T₂ + v * T₁; first = T₂ * x; second = T₁ * x; odds = v * T₁ } ≡ scaleOf ds ls
 unfolding scaleOf
 two-scale ls e p q r = rw (e, p, q, r, whole-G)
-
-pub two-odds : {ds : Donors} {T₁ T₂ : ℕ} (ls : List Lift) {u : ℕ} → ds ≡ Two T₁ T₂ → u ≡ U 2 ls → u * T₁ ≡ firstOdds ds ls
-unfolding firstOdds
-two-odds ls e p = rw (e, p)
 
 -- the sums of a round with two donors
 record Small (T₁ T₂ : ℕ) (ls : List Lift) : Type 0 where
@@ -203,6 +205,6 @@ unfolding plan preliminary select after
 plan-single ds ls i = rw weights-scaled
 
 pub plan-both : (ds : Donors) (ls : List Lift) (i j : ℕ) → plan ds ls (Both i j)
-    ≡ draw (scaleOf ds ls .new) (λ v. keyfitz (map (scaled (scaleOf ds ls)) ls) (cond (ltb v (firstOdds ds ls)) i j))
+    ≡ draw (scaleOf ds ls .new) (λ v. keyfitz (map (scaled (scaleOf ds ls)) ls) (cond (ltb v (scaleOf ds ls .odds)) i j))
 unfolding plan preliminary select after
-plan-both ds ls i j = rw (weights-scaled, D-scale)
+plan-both ds ls i j = rw (weights-scaled, D-scale, odds-scale)

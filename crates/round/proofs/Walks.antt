@@ -1,6 +1,6 @@
 -- The loops over a round lent as slices: each keeps what it has together with what is left of the round.
 use Prim.Native.Nat.{ℕ, zero, suc, _+_, _*_, _-_, _^_, _≤_, _<_}
-use mathlib.Core.Path.{_≡_, refl, sym, ap, ap₂}
+use mathlib.Core.Path.{_≡_, refl, sym, ap, ap₂, _∙_}
 use mathlib.Core.List.{List, [], _∷_, map, map-map}
 use native.Mathlib.Numerals.{add-one}
 use native.Mathlib.Omega.{arith}
@@ -12,8 +12,8 @@ use Rattle.laws.specs.Sum.{total}
 use Rattle.laws.specs.Interval.{pick}
 use Rattle.laws.proofs.Sums.{total-map, map-le}
 use Rattle.laws.proofs.Intervals.{pick-here, pick-beyond}
-use Rattle.round.specs.Round.{Lift, liftAt, Weight, weightAt, growth, G}
-use Rattle.round.specs.Slices.{lift, lifts, Level, multiplierOf, scaled, Room, Balanced}
+use Rattle.round.specs.Round.{Lift, liftAt, sent, U, Weight, weightAt, growth, G}
+use Rattle.round.specs.Slices.{lift, lifts, Level, cameOf, multiplierOf, scaled, Room, Balanced}
 use Rattle.round.specs.declared.Scale.{Scale}
 use Rattle.round.proofs.Weights.{dropped-G}
 
@@ -36,6 +36,26 @@ lifts-at {ms = m ∷ ms} {ds = []} l i h = absurd (omega (arith, l .donors))
 lifts-at {ms = m ∷ ms} {ds = d ∷ ds} {bs = []} l i h = absurd (omega (arith, l .news))
 lifts-at {ms = m ∷ ms} {ds = d ∷ ds} {bs = b ∷ bs} l zero h = refl
 lifts-at {ms = m ∷ ms} {ds = d ∷ ds} {bs = b ∷ bs} l (suc i) h = lifts-at (tail l) i (omega arith)
+
+-- U goes by old measures and donors alone
+sent-same : (k : ℕ) {ms ds bs cs : List ℕ} → Level ms ds bs → Level ms ds cs → total (map (sent k) (lifts ms ds bs)) ≡ total (map (sent k) (lifts ms ds cs))
+unfolding total lifts
+sent-same k {ms = []} l r = refl
+sent-same k {ms = m ∷ ms} {ds = []} l r = refl
+sent-same k {ms = m ∷ ms} {ds = d ∷ ds} {bs = []} l r = absurd (omega (arith, l .news))
+sent-same k {ms = m ∷ ms} {ds = d ∷ ds} {bs = b ∷ bs} {cs = []} l r = absurd (omega (arith, r .news))
+sent-same k {ms = m ∷ ms} {ds = d ∷ ds} {bs = b ∷ bs} {cs = c ∷ cs} l r = ap (λ t. sent k (lift m d 0) + t) (sent-same k (tail l) (tail r))
+
+module _ {ms ds bs : List ℕ} (l : Level ms ds bs) where
+  pub old-level : Level ms ds ms
+  old-level = record { donors = l .donors; news = refl }
+
+  pub came-said : (k : ℕ) {u : ℕ} → u ≡ cameOf k ms ds → u ≡ U k (lifts ms ds bs)
+  unfolding cameOf U
+  came-said k e = e ∙ sent-same k old-level l
+
+  pub came-room : (k : ℕ) → U k (lifts ms ds bs) ≤ 2 ^ 61 → cameOf k ms ds ≤ 2 ^ 61
+  came-room k r = omega (arith, came-said k refl)
 
 -- ---- what is left of the round at i
 
@@ -134,12 +154,12 @@ module _ (s : Scale) {ms ds bs : List ℕ} (l : Level ms ds bs) (i : ℕ) (h : i
   old-fits e r = rw e (omega (arith, old-room r))
 
 -- i is a place of the slices, and x multiplies its old measure
-pub record Weighed (s : Scale) (ms ds bs : List ℕ) (i x : ℕ) : Type 0 where
+pub record InSlices (s : Scale) (ms ds bs : List ℕ) (i x : ℕ) : Type 0 where
   pub level : Level ms ds bs
   pub inside : i < length ms
   pub multiplies : x ≡ multiplierOf s (getD ds i 0)
 
-module _ {s : Scale} {ms ds bs : List ℕ} {i x : ℕ} (k : Weighed s ms ds bs i x) where
+module _ {s : Scale} {ms ds bs : List ℕ} {i x : ℕ} (k : InSlices s ms ds bs i x) where
   pub weight-at : weightAt (map (scaled s) (lifts ms ds bs)) i ≡ record { old = getD ms i 0 * x; new = getD bs i 0 * s .new }
   weight-at =
       rw (k .multiplies, none-scaled s, List·getD-map (scaled s) (lifts ms ds bs) i (lift 0 0 0), lifts-at (k .level) i (k .inside))

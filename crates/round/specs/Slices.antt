@@ -32,6 +32,10 @@ pub record Level (ms ds bs : List ℕ) : Type 0 where
   pub donors : length ds ≡ length ms
   pub news : length bs ≡ length ms
 
+-- U of donor k, which goes by old measures and donors alone
+unfoldable pub cameOf : ℕ → List ℕ → List ℕ → ℕ
+cameOf k ms ds = U k (lifts ms ds ms)
+
 -- what a donor's old measures are multiplied by
 abbrev pub multiplierOf : Scale → ℕ → ℕ
 multiplierOf s d = cond (eqb d 1) (s .first) (cond (eqb d 2) (s .second) 0)
@@ -42,13 +46,13 @@ scaled s l = record { old = l .old * multiplierOf s (l .donor); new = l .new * s
 
 -- the multipliers that give a round's weights
 unfoldable pub scaleOf : Donors → List Lift → Scale
-scaleOf None ls = record { new = 0; first = 0; second = 0 }
-scaleOf (One T) ls = record { new = U 1 ls; first = S ls; second = 0 }
-scaleOf (Two T₁ T₂) ls = record { new = U 1 ls * T₂ + U 2 ls * T₁; first = T₂ * S ls; second = T₁ * S ls }
+scaleOf None ls = record { new = 0; first = 0; second = 0; odds = 0 }
+scaleOf (One T) ls = record { new = U 1 ls; first = S ls; second = 0; odds = 0 }
+scaleOf (Two T₁ T₂) ls = record { new = U 1 ls * T₂ + U 2 ls * T₁; first = T₂ * S ls; second = T₁ * S ls; odds = U 2 ls * T₁ }
 
 -- the multipliers with which each lift grows by its whole new measure
 abbrev pub wholly : Scale
-wholly = record { new = 1; first = 0; second = 0 }
+wholly = record { new = 1; first = 0; second = 0; odds = 0 }
 
 -- "at most 2^61": the old weights together and the new weights together
 pub record Room (s : Scale) (ls : List Lift) : Type 0 where

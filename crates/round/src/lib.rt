@@ -7,9 +7,9 @@ ghost use lib.ListN.{length};
 ghost use Rattle.laws.specs.Interval.{pick as pickOf};
 ghost use Rattle.draw.specs.Draw.{largest};
 ghost use Rattle.draw.specs.Run.{run};
-ghost use Rattle.round.specs.Round.{U, G, growth, sent, Fitting};
-ghost use Rattle.round.specs.Choice.{firstOdds, keyfitz, isHeld, outcome as outcomeOf, selection, answer, selected};
-ghost use Rattle.round.specs.Slices.{lift, lifts, Level, multiplierOf, scaled, scaleOf, Room, Balanced, Bounded, Callable, drawGrowth};
+ghost use Rattle.round.specs.Round.{G, growth, sent, Fitting};
+ghost use Rattle.round.specs.Choice.{keyfitz, isHeld, outcome as outcomeOf, selection, answer, selected};
+ghost use Rattle.round.specs.Slices.{lift, lifts, Level, cameOf, multiplierOf, scaled, scaleOf, Room, Balanced, Bounded, Callable, drawGrowth};
 use draw::Drawn;
 
 // The donors of a round, with their whole old sums T.
@@ -32,11 +32,13 @@ pub enum Selected {
     Short,
 }
 
-// Multipliers that give weights: of new measures, and of the old measures of donor 1 and donor 2.
-pub struct Scale {
-    pub new: u64,
-    pub first: u64,
-    pub second: u64,
+// Multipliers that give weights: of new measures, and of the old measures of donor 1 and donor 2. Of the values below `new`,
+// `odds` make donor 1's lift preliminary where both donors' lifts are held here.
+struct Scale {
+    new: u64,
+    first: u64,
+    second: u64,
+    odds: u64,
 }
 
 // The multipliers with which a lift grows by its whole new measure.
@@ -44,6 +46,7 @@ const WHOLLY: Scale = Scale {
     new: 1,
     first: 0,
     second: 0,
+    odds: 0,
 };
 
 // What the old measures of a donor are multiplied by.
@@ -117,10 +120,10 @@ fn part(old: u64, donor: u8, k: u8) -> u64
 }
 
 // U: the part of donor k's old sum that came here.
-fn came(old: &[u64], donor: &[u8], new: &[u64], k: u8) -> u64
-    requires { ⌜ Level (now old) (now donor) (now new) ⌝ }
-    requires { ⌜ U k (lifts (now old) (now donor) (now new)) ≤ 2 ^ 61 ⌝ }
-    ensures { λ r. ⌜ r ≡ U k (lifts (now (old .entry)) (now (donor .entry)) (now (new .entry))) ⌝ }
+fn came(old: &[u64], donor: &[u8], k: u8) -> u64
+    requires { ⌜ Level (now old) (now donor) (now old) ⌝ }
+    requires { ⌜ cameOf k (now old) (now donor) ≤ 2 ^ 61 ⌝ }
+    ensures { λ r. ⌜ r ≡ cameOf k (now (old .entry)) (now (donor .entry)) ⌝ }
 {
     let mut sum: u64 = 0;
     let mut i = 0;
@@ -143,40 +146,30 @@ fn scaling(old: &[u64], donor: &[u8], new: &[u64], donors: Donors) -> Scale
             new: 0,
             first: 0,
             second: 0,
+            odds: 0,
         },
         Donors::One(_) => {
             let s = reach(WHOLLY, old, donor, new);
-            let u = came(old, donor, new, 1);
+            let u = came(old, donor, 1);
             Scale {
                 new: u,
                 first: s,
                 second: 0,
+                odds: 0,
             }
         }
         Donors::Two(t1, t2) => {
             let s = reach(WHOLLY, old, donor, new);
-            let u1 = came(old, donor, new, 1);
-            let u2 = came(old, donor, new, 2);
+            let u1 = came(old, donor, 1);
+            let u2 = came(old, donor, 2);
+            let odds = u2 * t1;
             Scale {
-                new: u1 * t2 + u2 * t1,
+                new: u1 * t2 + odds,
                 first: t2 * s,
                 second: t1 * s,
+                odds,
             }
         }
-    }
-}
-
-// U2 × T1: how many of the values below D make donor 1's lift preliminary.
-fn first_odds(old: &[u64], donor: &[u8], new: &[u64], donors: Donors) -> u64
-    requires { ⌜ Level (now old) (now donor) (now new) ⌝ }
-    requires { ⌜ Fitting donors (lifts (now old) (now donor) (now new)) ⌝ }
-    requires { ⌜ Bounded donors (lifts (now old) (now donor) (now new)) ⌝ }
-    ensures { λ r. ⌜ r ≡ firstOdds donors (lifts (now (old .entry)) (now (donor .entry)) (now (new .entry))) ⌝ }
-{
-    match donors {
-        Donors::None => 0,
-        Donors::One(_) => 0,
-        Donors::Two(t1, _) => came(old, donor, new, 2) * t1,
     }
 }
 
@@ -283,7 +276,7 @@ fn select_of_two(
     let s = scaling(old, donor, new, donors);
     match draw::below(words, at, s.new) {
         Drawn::Value(v, next) => {
-            if v < first_odds(old, donor, new, donors) {
+            if v < s.odds {
                 update(s, old, donor, new, held, i, words, next)
             } else {
                 update(s, old, donor, new, held, j, words, next)

@@ -4,19 +4,19 @@ use Prim.Native.Nat.{_-_}
 use lib.ListN.{length}
 use mathlib.Core.Path.{refl}
 use Rattle.round.specs.Round.{sent, U}
-use Rattle.round.specs.Slices.{lifts}
+use Rattle.round.specs.Slices.{lifts, cameOf}
 use Rattle.round.proofs.Walks.{Summed, sum-none, sum-turn, sum-fits, sum-end}
 use Rattle.round.proofs.came.Statement.{statement}
 use Rattle.round.proofs.came.Tie as tie
 
 abbrev Inv-loop : tie.InvT-loop
-Inv-loop old donor new k sum₀ i₀ sum i = Summed (sent k) (lifts old donor new) (U k (lifts old donor new)) sum i
+Inv-loop old donor k sum₀ i₀ sum i = Summed (sent k) (lifts old donor old) (cameOf k old donor) sum i
 
 abbrev μ-loop : tie.MeasureT-loop
-μ-loop old donor new k sum₀ i₀ sum i = length old - i
+μ-loop old donor k sum₀ i₀ sum i = length old - i
 
 loop-holds : tie.Need-loop-holds Inv-loop μ-loop
-unfolding U
+unfolding U cameOf
 loop-holds c = sum-none refl
 
 mul-part : tie.Need-mul-part Inv-loop μ-loop

@@ -14,9 +14,6 @@ below-requires c κs = search both-drawable
 enum-known-v : tie.Need-enum-known-v
 enum-known-v c = search needs
 
-first-odds-requires : tie.Need-first-odds-requires
-first-odds-requires c κs = search needs
-
 update-requires : tie.Need-update-requires
 update-requires c κs =
     let p = c .before .before .before .before .before .before .before .before .before .before .before .pre in
@@ -46,7 +43,6 @@ select-of-two-spec =
     scaling-requires
     below-requires
     enum-known-v
-    first-odds-requires
     update-requires
     update-requires-2
     enum-told

@@ -1,13 +1,13 @@
 -- `round::update` meets its contract: one law for each way out; where the lift may be dropped, the growths have a sum above 0. Assumes nothing.
 use borrow.Author.Needs.{needs}
-use Rattle.round.proofs.Walks.{Weighed, old-fits, new-fits, moves-G}
+use Rattle.round.proofs.Walks.{InSlices, old-fits, new-fits, moves-G}
 use Rattle.round.proofs.Answers.{stays, kept, moved, update-short}
 use Rattle.round.proofs.update.Statement.{statement}
 use Rattle.round.proofs.update.Tie as tie
 
 -- the lift at i, once its multiplier is known
 weighed : (c : tie.After-multiplier)
-    → let a = c .before .before .before .before .before .before .before .args in Weighed (a .s) (a .old .now) (a .donor .now) (a .new .now) (a .i) (c .multiplier .result)
+    → let a = c .before .before .before .before .before .before .before .args in InSlices (a .s) (a .old .now) (a .donor .now) (a .new .now) (a .i) (c .multiplier .result)
 weighed c =
     let p = c .before .before .before .before .before .before .before .pre in
     record { level = p .0; inside = p .1 .1 .1; multiplies = c .multiplier .ensures }
