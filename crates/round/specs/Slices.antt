@@ -1,4 +1,4 @@
--- A round lent as slices, and its weights by three multipliers, as the code computes them.
+-- A round lent as slices, what a caller shows of it, and its weights as the code computes them.
 use Prim.Native.Nat.{ℕ, _+_, _*_, _^_, _≤_, _<_}
 use mathlib.Core.Path.{_≡_}
 use mathlib.Core.Bool.{Bool, cond}
@@ -16,6 +16,8 @@ use Rattle.round.specs.declared.Held.{Held}
 use Rattle.round.specs.declared.Held.the-variants.{Neither, Single, Both}
 use Rattle.round.specs.declared.Scale.{Scale}
 
+-- ---- what the code is given
+
 -- the lift of an old measure, a donor and a new measure
 abbrev pub lift : ℕ → ℕ → ℕ → Lift
 lift m d b = record { old = m; donor = d; new = b }
@@ -31,6 +33,39 @@ lifts (m ∷ ms) (d ∷ ds) (b ∷ bs) = lift m d b ∷ lifts ms ds bs
 pub record Level (ms ds bs : List ℕ) : Type 0 where
   pub donors : length ds ≡ length ms
   pub news : length bs ≡ length ms
+
+-- "each sum of a round's measures at most 1,048,576"
+abbrev pub largestSum : ℕ
+largestSum = 1048576
+
+-- the donors' whole old sums
+abbrev pub SumsBounded : Donors → Type 0
+SumsBounded None = Unit {0}
+SumsBounded (One T) = T ≤ largestSum
+SumsBounded (Two T₁ T₂) = (T₁ ≤ largestSum) × (T₂ ≤ largestSum)
+
+-- no sum is above that (refusal 8)
+pub record Bounded (ds : Donors) (ls : List Lift) : Type 0 where
+  pub new : S ls ≤ largestSum
+  pub old : SumsBounded ds
+
+-- held lifts stand at places of the round; there is one only with a donor, and both only with two
+abbrev pub Stands : Donors → Held → ℕ → Type 0
+Stands ds Neither n = Unit {0}
+Stands None (Single i) n = ⊥
+Stands (One T) (Single i) n = i < n
+Stands (Two T₁ T₂) (Single i) n = i < n
+Stands None (Both i j) n = ⊥
+Stands (One T) (Both i j) n = ⊥
+Stands (Two T₁ T₂) (Both i j) n = (i < n) × (j < n)
+
+-- what a caller shows of the round and its held lifts: every fitting sheet gives it
+pub record Callable (ds : Donors) (ls : List Lift) (h : Held) : Type 0 where
+  pub fitting : Fitting ds ls
+  pub bounded : Bounded ds ls
+  pub stands : Stands ds h (length ls)
+
+-- ---- how the code computes
 
 -- U of donor k, which goes by old measures and donors alone
 unfoldable pub cameOf : ℕ → List ℕ → List ℕ → ℕ
@@ -59,41 +94,11 @@ pub record Room (s : Scale) (ls : List Lift) : Type 0 where
   pub olds : total (map (λ l. scaled s l .old) ls) ≤ 2 ^ 61
   pub news : total (map (λ l. scaled s l .new) ls) ≤ 2 ^ 61
 
--- "each sum of a round's measures at most 1,048,576"
-abbrev pub largestSum : ℕ
-largestSum = 1048576
-
--- the donors' whole old sums
-abbrev pub SumsBounded : Donors → Type 0
-SumsBounded None = Unit {0}
-SumsBounded (One T) = T ≤ largestSum
-SumsBounded (Two T₁ T₂) = (T₁ ≤ largestSum) × (T₂ ≤ largestSum)
-
--- no sum is above that (refusal 8)
-pub record Bounded (ds : Donors) (ls : List Lift) : Type 0 where
-  pub new : S ls ≤ largestSum
-  pub old : SumsBounded ds
-
--- a held lift stands at a place of the round and comes from a donor; both are here only with two donors
-abbrev pub Stands : Donors → Held → ℕ → Type 0
-Stands ds Neither n = Unit {0}
-Stands None (Single i) n = ⊥
-Stands (One T) (Single i) n = i < n
-Stands (Two T₁ T₂) (Single i) n = i < n
-Stands None (Both i j) n = ⊥
-Stands (One T) (Both i j) n = ⊥
-Stands (Two T₁ T₂) (Both i j) n = (i < n) × (j < n)
-
--- what a caller shows of the round and its held lifts: every fitting sheet gives it
-pub record Callable (ds : Donors) (ls : List Lift) (h : Held) : Type 0 where
-  pub fitting : Fitting ds ls
-  pub bounded : Bounded ds ls
-  pub stands : Stands ds h (length ls)
-
 -- "Both weights sum to D × S": the old weights and the new ones have the same sum
 pub record Balanced (s : Scale) (ls : List Lift) : Type 0 where
   pub sums : total (map (λ l. scaled s l .old) ls) ≡ total (map (λ l. scaled s l .new) ls)
 
--- a draw below the sum of the growths takes the lift in whose interval it falls: a replacement, or fresh where the growths are the new measures
+-- a draw below the sum of the growths takes the lift in whose interval it falls: a replacement, or fresh where the growths are
+-- the new measures
 unfoldable pub drawGrowth : Bool → List Weight → Plan Selection
 drawGrowth dropped ws = draw (G ws) (λ q. done (selection (pick (map growth ws) q) dropped))
