@@ -19,7 +19,7 @@ sub-result : tie.Need-sub-result
 sub-result c = search needs
 
 returns : tie.Need-returns
-returns c = rw (c .before .before .multiplier .ensures)
+returns c = omega (arith, ap (λ x. c .before .before .before .args .old * x) (c .before .before .multiplier .ensures))
 
 returns-2 : tie.Need-returns-2
 returns-2 c = omega (arith, ap (λ x. c .before .before .before .args .old * x) (c .before .before .multiplier .ensures))
