@@ -54,7 +54,7 @@ pub fn draw_below(words: &[u64], at: usize, bound: u64) -> Option<(u64, usize)> 
     if found {
         return Some((value, next));
     }
-    debug_assert_eq!((value, next), UNWRITTEN, "a refused draw wrote an answer");
+    assert_eq!((value, next), UNWRITTEN, "a short draw wrote an answer");
     None
 }
 

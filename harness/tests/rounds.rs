@@ -110,7 +110,6 @@ fn any_round(seeded: &mut Seeded, donors: usize) -> Round {
         .collect();
     let row = |place: usize| match seeded.index(donors + 1) {
         0 => (0, 0, new_measures[place]),
-        donor if came[donor - 1][place] == 0 => (0, 0, new_measures[place]),
         donor => (donor, came[donor - 1][place], new_measures[place]),
     };
     let rows: Vec<LiftRow> = (0..count).map(row).collect();
@@ -124,7 +123,7 @@ fn any_round(seeded: &mut Seeded, donors: usize) -> Round {
             _ => here + seeded.below(rest + 1),
         };
         let sent: Vec<usize> = (0..count)
-            .filter(|&place| rows[place].0 == donor + 1)
+            .filter(|&place| rows[place].0 == donor + 1 && rows[place].1 > 0)
             .collect();
         let held = seeded.index(2 * sent.len() + 1);
         any.held[donor] = sent.get(held / 2).copied();
@@ -176,7 +175,8 @@ fn largest_sums() {
 fn seeded_rounds_agree() {
     let mut seeded = Seeded::new(5);
     let mut compared = 0;
-    let mut by_draws = [0; 4];
+    let (mut by_draws, mut by_donors, mut by_outcome) = ([0; 4], [0; 3], [0; 4]);
+    let (mut both_held, mut largest_sums, mut zero_measures) = (0, 0, 0);
     while compared < 200_000 {
         let donors = seeded.index(3);
         let any = any_round(&mut seeded, donors);
@@ -192,12 +192,18 @@ fn seeded_rounds_agree() {
             assert_eq!(agreed(&any, &words[..end - 1], at), None);
         }
         by_draws[ends.len()] += 1;
+        by_donors[donors] += 1;
+        by_outcome[choice.outcome as usize] += 1;
+        both_held += usize::from(any.held.iter().all(Option::is_some));
+        largest_sums += usize::from(any.new_sum() == 1 << 20 && any.old_sums.contains(&(1 << 20)));
+        let zero =
+            |lift: &Lift| lift.new_measure == 0 || lift.donor.is_some() && lift.old_measure == 0;
+        zero_measures += usize::from(any.lifts.iter().any(zero));
         compared += 1;
     }
-    assert!(
-        by_draws.iter().all(|&rounds| rounds >= 1_000),
-        "{by_draws:?}"
-    );
+    let counts = [&by_draws[..], &by_donors, &by_outcome[1..]].concat();
+    let counts = [counts, vec![both_held, largest_sums, zero_measures]].concat();
+    assert!(counts.iter().all(|&rounds| rounds >= 1_000), "{counts:?}");
 }
 
 /// A small round with up to so many donors and measures of at most `most`, no lift held.
@@ -247,7 +253,7 @@ fn step(draws: &mut Vec<Drawn>) -> bool {
     false
 }
 
-/// Calls `seen` with the chosen place and the product of the bounds for all draws' values.
+/// Calls `seen` with the chosen place and the product of the bounds for all draws' values, on each of which archive and reference agree.
 fn all_ways(round: &Round, mut seen: impl FnMut(usize, u128)) {
     let mut draws: Vec<Drawn> = Vec::new();
     loop {
@@ -260,6 +266,11 @@ fn all_ways(round: &Round, mut seen: impl FnMut(usize, u128)) {
             Some(draws[made - 1].1)
         });
         let (place, _) = chosen.expect("every draw is answered");
+        let words: Vec<u64> = draws.iter().map(|&(_, value)| value as u64).collect();
+        assert_eq!(
+            agreed(round, &words, 0).map(|choice| choice.place),
+            Some(place)
+        );
         seen(place, draws.iter().map(|(bound, _)| bound).product());
         if !step(&mut draws) {
             return;

@@ -11,7 +11,7 @@ use borrow.Author.Tests.{ltb-true}
 use Rattle.laws.specs.Sum.{over}
 use Rattle.laws.specs.Plan.{Plan, done, draw, Path, drew as step, paths}
 use Rattle.draw.specs.Draw.{K, drawFrom, drawAt}
-use Rattle.draw.specs.Run.{Run, ended, short, drew, follow, run, FollowsAPath}
+use Rattle.draw.specs.Run.{Run, finished, short, drew, follow, run, FollowsAPath}
 use Rattle.draw.specs.declared.Drawn.{Drawn}
 use Rattle.draw.specs.declared.Drawn.the-variants.{Value, Short}
 
@@ -45,9 +45,9 @@ mem-over (suc n) f (suc v) l d = Memᴰ·append-right (f 0) (mem-over n (λ i. f
 
 -- a path that ends at once
 abbrev stop : {A : Type 0} → List ℕ → A → Path A
-stop vs a = record { values = vs; odds = 1; result = a }
+stop vs a = record { values = vs; bounds = 1; result = a }
 
-stops : {A : Type 0} (a : A) (vs : List ℕ) (at next : ℕ) (x : A) → ended [] a at ≡ ended vs x next → List·Memᴰ (stop vs x) (stop [] a ∷ [])
+stops : {A : Type 0} (a : A) (vs : List ℕ) (at next : ℕ) (x : A) → finished [] a at ≡ finished vs x next → List·Memᴰ (stop vs x) (stop [] a ∷ [])
 stops a vs at next x e =
     let p : vs ≡ [] = cc in let q : x ≡ a = cc in let r : stop vs x ≡ stop [] a = rw (p, q) in
     List·Memᴰ·head {x = stop [] a} r
@@ -57,17 +57,17 @@ unfolding run paths
 follows m (done a) = record { path = λ ws vs at next x e. (1, stops a vs at next x e) }
 follows {A} m (draw b k) = record { path = λ ws vs at next x e. go ws vs at next x (drawAt m ws at b) refl e (λ v. follows m (k v)) }
   where
-    reached : (vs : List ℕ) (next : ℕ) (x : A) (v : ℕ) (r : Run A) → v < b → drew v r ≡ ended vs x next
-        → ((us : List ℕ) → r ≡ ended us x next → (o : ℕ) × List·Memᴰ {A = Path A} (record { values = us; odds = o; result = x }) (paths (k v)))
-        → (o : ℕ) × List·Memᴰ {A = Path A} (record { values = vs; odds = o; result = x }) (over _++_ [] b (λ v. map (step b v) (paths (k v))))
-    reached vs next x v (ended us y n) l q h =
+    reached : (vs : List ℕ) (next : ℕ) (x : A) (v : ℕ) (r : Run A) → v < b → drew v r ≡ finished vs x next
+        → ((us : List ℕ) → r ≡ finished us x next → (o : ℕ) × List·Memᴰ {A = Path A} (record { values = us; bounds = o; result = x }) (paths (k v)))
+        → (o : ℕ) × List·Memᴰ {A = Path A} (record { values = vs; bounds = o; result = x }) (over _++_ [] b (λ v. map (step b v) (paths (k v))))
+    reached vs next x v (finished us y n) l q h =
         let (o, d) = h us (cc) in
         (b * o, Memᴰ·cast (cc) (mem-over b (λ v. map (step b v) (paths (k v))) v l (mem-map (step b v) d)))
     reached vs next x v short l q h = let z : _≡_ {A = ℕ} 0 1 = cc in absurd (omega arith)
 
-    go : (ws vs : List ℕ) (at next : ℕ) (x : A) (d : Drawn) → drawAt m ws at b ≡ d → follow d (λ v n. run m ws n (k v)) ≡ ended vs x next
+    go : (ws vs : List ℕ) (at next : ℕ) (x : A) (d : Drawn) → drawAt m ws at b ≡ d → follow d (λ v n. run m ws n (k v)) ≡ finished vs x next
         → ((v : ℕ) → FollowsAPath m (k v))
-        → (o : ℕ) × List·Memᴰ {A = Path A} (record { values = vs; odds = o; result = x }) (over _++_ [] b (λ v. map (step b v) (paths (k v))))
+        → (o : ℕ) × List·Memᴰ {A = Path A} (record { values = vs; bounds = o; result = x }) (over _++_ [] b (λ v. map (step b v) (paths (k v))))
     go ws vs at next x (Value v n) l q h =
         reached vs next x v (run m ws n (k v)) (value-below m ws at b l) q (λ us e. h v .path ws us n next x e)
     go ws vs at next x Short l q h = let z : _≡_ {A = ℕ} 0 1 = cc in absurd (omega arith)

@@ -9,12 +9,12 @@ use Rattle.draw.specs.declared.Drawn.the-variants.{Value, Short}
 
 -- the values drawn, the result and the next position; or the words ended before a draw was finished
 pub data Run (A : Type 0) : Type 0 where
-  ended : (values : List ℕ) → (result : A) → (next : ℕ) → Run A
+  finished : (values : List ℕ) → (result : A) → (next : ℕ) → Run A
   short : Run A
 
 -- a run that first drew v
 abbrev pub drew : {A : Type 0} → ℕ → Run A → Run A
-drew v (ended vs a next) = ended (v ∷ vs) a next
+drew v (finished vs a next) = finished (v ∷ vs) a next
 drew v short = short
 
 -- after a draw, the run goes on from its value and the position behind it
@@ -24,10 +24,10 @@ follow Short k = short
 
 -- the run of a plan on the words ws from a position on, m being the largest word
 unfoldable pub run : {A : Type 0} → ℕ → List ℕ → ℕ → Plan A → Run A
-run m ws at (done a) = ended [] a at
+run m ws at (done a) = finished [] a at
 run m ws at (draw b k) = follow (drawAt m ws at b) (λ v next. run m ws next (k v))
 
 -- what is proved of the run of every plan (proofs/Runs.antt): it follows one of the plan's paths
 pub record FollowsAPath {A : Type 0} (m : ℕ) (p : Plan A) : Type 0 where
-  pub path : (ws vs : List ℕ) (at next : ℕ) (a : A) → run m ws at p ≡ ended vs a next
-      → (odds : ℕ) × List·Memᴰ {A = Path A} (record { values = vs; odds = odds; result = a }) (paths p)
+  pub path : (ws vs : List ℕ) (at next : ℕ) (a : A) → run m ws at p ≡ finished vs a next
+      → (bounds : ℕ) × List·Memᴰ {A = Path A} (record { values = vs; bounds = bounds; result = a }) (paths p)

@@ -21,8 +21,8 @@ weight-++ : {A : Type 0} (t : A → Bool) (xs ys : List (Path A)) → weight t (
 unfolding weight
 weight-++ t [] ys = sym (⊕-zero (weight t ys))
 weight-++ t (x ∷ xs) ys =
-    ap (λ s. indicator (t (x .result)) // x .odds ⊕ s) (weight-++ t xs ys)
-    ∙ sym (⊕-assoc (indicator (t (x .result)) // x .odds) (weight t xs) (weight t ys))
+    ap (λ s. indicator (t (x .result)) // x .bounds ⊕ s) (weight-++ t xs ys)
+    ∙ sym (⊕-assoc (indicator (t (x .result)) // x .bounds) (weight t xs) (weight t ys))
 
 weight-over : {A : Type 0} (t : A → Bool) (n : ℕ) (f : ℕ → List (Path A)) → weight t (over _++_ [] n f) ≡ sum n (λ v. weight t (f v))
 unfolding weight
@@ -34,9 +34,9 @@ weight-drew : {A : Type 0} (t : A → Bool) (b v : ℕ) (ps : List (Path A)) →
 unfolding weight
 weight-drew t b v [] l h = record { cross = omega arith; left = omega arith; right = omega arith }
 weight-drew t b v (p ∷ ps) l h =
-    let o = pos-left (p .odds) _ h in let w = pos-right (p .odds) _ h in
-    ≈-trans (⊕-≈ {s = 1 // b ⊗ indicator (t (p .result)) // p .odds} (record { cross = omega arith; left = mul-pos l o; right = mul-pos l o }) (weight-drew t b v ps l w))
-    (⊗-distrib (1 // b) (indicator (t (p .result)) // p .odds) (weight t ps) l o w)
+    let o = pos-left (p .bounds) _ h in let w = pos-right (p .bounds) _ h in
+    ≈-trans (⊕-≈ {s = 1 // b ⊗ indicator (t (p .result)) // p .bounds} (record { cross = omega arith; left = mul-pos l o; right = mul-pos l o }) (weight-drew t b v ps l w))
+    (⊗-distrib (1 // b) (indicator (t (p .result)) // p .bounds) (weight t ps) l o w)
 
 agree : {A : Type 0} (t : A → Bool) (p : Plan A) → Drawable p → weight t (paths p) ≈ mass t p
 unfolding weight paths mass Every

@@ -33,22 +33,22 @@ Within (suc n) (draw b k) = (v : ℕ) → v < b → Within n (k v)
 -- a path through a plan (the document's "way"): the values drawn, the product of the bounds met, the result
 pub record Path (A : Type 0) : Type 0 where
   pub values : List ℕ
-  pub odds : ℕ
+  pub bounds : ℕ
   pub result : A
 
 -- a path that first draws v below b
 abbrev pub drew : {A : Type 0} → ℕ → ℕ → Path A → Path A
-drew b v p = record { values = v ∷ p .values; odds = b * p .odds; result = p .result }
+drew b v p = record { values = v ∷ p .values; bounds = b * p .bounds; result = p .result }
 
 -- all paths through a plan
 unfoldable pub paths : {A : Type 0} → Plan A → List (Path A)
-paths (done a) = record { values = []; odds = 1; result = a } ∷ []
+paths (done a) = record { values = []; bounds = 1; result = a } ∷ []
 paths (draw b k) = over _++_ [] b (λ v. map (drew b v) (paths (k v)))
 
 -- what the paths weigh together whose result passes the test: each weighs 1 over the product of the bounds that it met
 unfoldable pub weight : {A : Type 0} → (A → Bool) → List (Path A) → Fraction
 weight t [] = 0 // 1
-weight t (p ∷ ps) = indicator (t (p .result)) // p .odds ⊕ weight t ps
+weight t (p ∷ ps) = indicator (t (p .result)) // p .bounds ⊕ weight t ps
 
 -- the same by recursion: the values of a draw share its mass evenly
 unfoldable pub mass : {A : Type 0} → (A → Bool) → Plan A → Fraction
@@ -66,5 +66,5 @@ pub record Weighed {A : Type 0} (t : A → Bool) (p : Plan A) : Type 0 where
   pub agree : weight t (paths p) ≈ mass t p
   -- all paths weigh 1 together
   pub whole : weight (λ _. true) (paths p) ≈ 1 // 1
-  -- and none of them weigh more
+  -- and no part of them weighs more
   pub part : weight t (paths p) ≲ 1 // 1

@@ -8,7 +8,7 @@ use lib.ListN.{getD}
 use Rattle.laws.specs.Interval.{pick}
 use Rattle.laws.specs.Plan.{Plan, draw}
 use Rattle.draw.specs.Draw.{drawAt}
-use Rattle.draw.specs.Run.{Run, ended, short, drew, run}
+use Rattle.draw.specs.Run.{Run, finished, short, drew, run}
 use Rattle.draw.specs.declared.Drawn.{Drawn}
 use Rattle.draw.specs.declared.Drawn.the-variants.{Value, Short as Ended}
 use Rattle.round.specs.Round.{Lift, Weight, growth, G}
@@ -24,7 +24,7 @@ use Rattle.round.proofs.Walks.{InSlices, weight-at}
 use Rattle.round.proofs.Scales.{plan-neither, plan-single, plan-both}
 
 drew-answer : (h : Held) (v : ℕ) (r : Run Selection) → answer h (drew v r) ≡ answer h r
-drew-answer h v (ended vs s next) = refl
+drew-answer h v (finished vs s next) = refl
 drew-answer h v short = refl
 
 module _ (m : ℕ) (ws : List ℕ) (from : ℕ) (h : Held) where

@@ -6,7 +6,7 @@ use lib.Dec.{leb, ltb, eqb}
 use Rattle.laws.specs.Interval.{pick}
 use Rattle.laws.specs.Plan.{Plan, done, draw, after}
 use Rattle.draw.specs.Draw.{largest}
-use Rattle.draw.specs.Run.{Run, ended, short, run}
+use Rattle.draw.specs.Run.{Run, finished, short, run}
 use Rattle.round.specs.Round.{Lift, S, U, D, Weight, weights, weightAt, growth, G}
 use Rattle.round.specs.declared.Donors.{Donors}
 use Rattle.round.specs.declared.Donors.the-variants.{None, One, Two}
@@ -80,7 +80,7 @@ outcome h s = cond (isHeld h (s .place)) 1 (cond (s .dropped) 2 3)
 
 -- the answer to a run of the choice: the place, the outcome and the next position, or short
 abbrev pub answer : Held → Run Selection → Selected
-answer h (ended vs s next) = At (s .place) (outcome h s) next
+answer h (finished vs s next) = At (s .place) (outcome h s) next
 answer h short = Short
 
 -- the choice from the random words ws, read from a position on

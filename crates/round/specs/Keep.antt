@@ -35,7 +35,7 @@ keptTickets n grid = Σ n (λ i. grid i i)
 pub record Keeps (T : ℕ) (ls : List Lift) : Type 0 where
   pub most : (times : ℕ) (grid : ℕ → ℕ → ℕ) → Coupling (weights (One T) ls) times grid
       → keptTickets (length ls) grid * kept (One T) ls .den ≤ tickets (length ls) grid * kept (One T) ls .num
-  -- it is the sum of the smaller of both weights over D × S
+  -- what is kept is the sum of the smaller of both weights over D × S
   pub exactly : kept (One T) ls ≈ total (map (λ w. min (w .old) (w .new)) (weights (One T) ls)) // (D (One T) ls * S ls)
 
 -- proved: in every round that a fitting sheet gives, with one donor and U = T

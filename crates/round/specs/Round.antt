@@ -46,7 +46,7 @@ oldWeight (Two T₁ T₂) ls l = (sent 1 l * T₂ + sent 2 l * T₁) * S ls
 unfoldable pub newWeight : Donors → List Lift → Lift → ℕ
 newWeight ds ls l = l .new * D ds ls
 
--- the old and the new weight of a unit, of lists with equal sums
+-- the old and the new weight of a unit
 pub record Weight : Type 0 where
   pub old : ℕ
   pub new : ℕ
@@ -79,7 +79,7 @@ Donate None ls = Unit {0}
 Donate (One T) ls = Sends 1 T ls
 Donate (Two T₁ T₂) ls = Sends 1 T₁ ls × Sends 2 T₂ ls
 
--- what every fitting sheet gives of a round: its sum is above 0 (refusal 9), and its donors are donors
+-- what every fitting sheet gives of a round: its sum is above 0 (refusal 9), and each donor sends it measure
 pub record Fitting (ds : Donors) (ls : List Lift) : Type 0 where
   pub positive : 0 < S ls
   pub donate : Donate ds ls

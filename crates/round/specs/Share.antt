@@ -28,7 +28,7 @@ heldOf elsewhere (here j) = Single j
 heldOf (here i) (here j) = Both i j
 
 -- the mean of f over the initial selections of donor k: "A marking names one lift of old measure above 0 in each old round",
--- each by its old measure over the donor's whole old sum T
+-- each by its old measure over the donor's whole old sum T, lifts of no or another donor by 0
 unfoldable pub overInitial : ℕ → ℕ → List Lift → (Initial → Fraction) → Fraction
 overInitial k T ls f = sum (length ls) (λ i. sent k (liftAt ls i) // T ⊗ f (here i)) ⊕ (T - U k ls) // T ⊗ f elsewhere
 

@@ -67,7 +67,7 @@ pub record Callable (ds : Donors) (ls : List Lift) (h : Held) : Type 0 where
 
 -- ---- how the code computes
 
--- U of donor k, which goes by old measures and donors alone
+-- U of donor k goes by old measures and donors alone: the old measures stand in for the new ones
 unfoldable pub cameOf : ℕ → List ℕ → List ℕ → ℕ
 cameOf k ms ds = U k (lifts ms ds ms)
 

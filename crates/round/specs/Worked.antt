@@ -51,8 +51,8 @@ abbrev two : List Lift
 two = lift 1 1 1 ∷ lift 3 2 1 ∷ []
 
 -- "Old 3, 7, new 0, 1"
-abbrev barred : List Lift
-barred = lift 3 1 0 ∷ lift 7 1 1 ∷ []
+abbrev noChance : List Lift
+noChance = lift 3 1 0 ∷ lift 7 1 1 ∷ []
 
 -- M1 to M11 in the document's order; M11, "always dropped", for each r
 abbrev pub cases : List Case
@@ -67,7 +67,7 @@ cases =
     ∷ chosen (Two 4 6) two (Both 0 1) (12 ∷ 18 ∷ 5 ∷ []) (At 0 1 3)
     ∷ chosen (Two 4 6) two Neither (1 ∷ []) (At 1 3 1)
     ∷ chosen (Two 4 6) two (Single 1) (18 ∷ 0 ∷ []) (At 0 2 2)
-    ∷ chosen (One 10) barred (Single 0) (0 ∷ 0 ∷ []) (At 1 2 2)
-    ∷ chosen (One 10) barred (Single 0) (1 ∷ 0 ∷ []) (At 1 2 2)
-    ∷ chosen (One 10) barred (Single 0) (2 ∷ 0 ∷ []) (At 1 2 2)
+    ∷ chosen (One 10) noChance (Single 0) (0 ∷ 0 ∷ []) (At 1 2 2)
+    ∷ chosen (One 10) noChance (Single 0) (1 ∷ 0 ∷ []) (At 1 2 2)
+    ∷ chosen (One 10) noChance (Single 0) (2 ∷ 0 ∷ []) (At 1 2 2)
     ∷ []

@@ -5,7 +5,7 @@ use super::draw;
 /// A lift of the round.
 #[derive(Clone, Copy, Debug)]
 pub struct Lift {
-    /// 0 for donor 1, 1 for donor 2, None exactly if the old measure is 0.
+    /// 0 for donor 1, 1 for donor 2; None only if the old measure is 0.
     pub donor: Option<usize>,
     pub old_measure: u64,
     pub new_measure: u64,
