@@ -97,7 +97,11 @@ module _ (T : ℕ) (ls : List Lift) (f : Fitting (One T) ls) (whole : U 1 ls ≡
         let e : tickets (length ls) grid ≡ D (One T) ls * S ls * times
         = rw (length-weights (One T) ls, old-sum (One T) ls) at (all-tickets ws times grid c) in
         let m : keptTickets (length ls) grid ≤ total (map smaller ws) * times = rw (length-weights (One T) ls) at (at-most ws times grid c) in
-        rw e (omega (arith, mul-le-mul-right d m, ap (λ x. x * times) (kept-sum .cross)));
+        rw e (record {
+          cross = omega (arith, mul-le-mul-right d m, ap (λ x. x * times) (kept-sum .cross));
+          left = omega arith;
+          right = omega (arith, kept-sum .left);
+        });
     exactly = kept-sum;
   }
 

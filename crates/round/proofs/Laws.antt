@@ -3,18 +3,21 @@ use Prim.Native.Nat.{ℕ, zero, suc}
 use mathlib.Core.Path.{sym, _∙_}
 use mathlib.Core.Bool.{Bool, true, false, cond}
 use mathlib.Core.List.{List}
+use native.Mathlib.Omega.{arith}
 use lib.ListN.{length}
 use lib.Dec.{leb, ltb}
+use Rattle.laws.proofs.Sums.{map-le}
 use Rattle.laws.specs.Plan.{Plan, done, draw, after, Drawable, Within}
 use Rattle.round.specs.Round.{Lift, Weight, weights, weightAt, Fitting}
 use Rattle.round.specs.Choice.{Preliminary, noUnit, unitAt, fresh, firstOdds, preliminary, stayOr, replacement, keyfitz, select, plan}
-use Rattle.round.specs.Slices.{Stands}
-use Rattle.round.specs.Law.{LawsTheorem}
+use Rattle.round.specs.Slices.{Bounded, Stands}
+use Rattle.round.specs.Law.{Small, LawsTheorem}
 use Rattle.round.specs.declared.Donors.{Donors}
 use Rattle.round.specs.declared.Donors.the-variants.{None, One, Two}
 use Rattle.round.specs.declared.Held.{Held}
 use Rattle.round.specs.declared.Held.the-variants.{Neither, Single, Both}
-use Rattle.round.proofs.Weights.{old-sum, new-sum, losses, dropped-G, weight-bound, one-positive, two-positive}
+use Rattle.round.proofs.Weights.{old-sum, new-sum, losses, dropped-G, G-le, D-bound, weight-bound, one-positive, two-positive}
+use Rattle.round.proofs.Keyfitz.{none}
 use Rattle.round.proofs.Shares.{length-weights, every-fresh, every-plan}
 
 -- ---- at most three draws
@@ -64,15 +67,26 @@ drawable (Two T₁ T₂) ls f Neither s = every-fresh ls (f .positive)
 drawable (Two T₁ T₂) ls f (Single i) s = every-plan (Two T₁ T₂) ls (f .positive) (two-positive (f .donate .0) (f .donate .1)) (Single i) s
 drawable (Two T₁ T₂) ls f (Both i j) s = every-plan (Two T₁ T₂) ls (f .positive) (two-positive (f .donate .0) (f .donate .1)) (Both i j) s
 
+small : (ds : Donors) (ls : List Lift) → Fitting ds ls → Bounded ds ls → Small ds ls
+small ds ls f b =
+    let w = weight-bound ds ls f b in let ws = weights ds ls in
+    record {
+      scale = D-bound ds ls (f .donate) (b .old);
+      whole = w;
+      growths = omega (arith, G-le ws, new-sum ds ls);
+      old = λ i l. omega (arith, map-le (λ x. x .old) none ws i (rw (length-weights ds ls) l), old-sum ds ls);
+      new = λ i l. omega (arith, map-le (λ x. x .new) none ws i (rw (length-weights ds ls) l), new-sum ds ls);
+    }
+
 pub lawful : LawsTheorem
-lawful ds ls f b =
+lawful ds ls =
     let e = old-sum ds ls ∙ sym (new-sum ds ls) in
     record {
       olds = old-sum ds ls;
       news = new-sum ds ls;
-      bound = weight-bound ds ls f b;
       losses = losses (weights ds ls) e;
       grows = λ i l. dropped-G (weights ds ls) i e (rw (length-weights ds ls) l);
       three = three ds ls;
-      drawable = drawable ds ls f;
+      drawable = drawable ds ls;
+      fits = small ds ls;
     }

@@ -108,6 +108,7 @@ pub record Alike (n x z : ℕ) (t : Preliminary → Bool) : Type 0 where
 pub record Known (ds : Donors) (ls : List Lift) (X Y Z : ℕ) : Type 0 where
   pub whole : X + Y ≡ Z
   pub positive : 0 < Z
+  pub present : 0 < X
   pub lift : (t : Preliminary → Bool) (i : ℕ) → i < length ls → Only (length ls) i t
       → overHeld ds ls (λ h. mass t (preliminary ds ls h)) ≈ X // Z ⊗ oldWeight ds ls (liftAt ls i) // (D ds ls * S ls)
   pub some : (t : Preliminary → Bool) → Alike (length ls) 1 0 t → overHeld ds ls (λ h. mass t (preliminary ds ls h)) ≈ X // Z
@@ -128,6 +129,7 @@ known-one T ls q s =
     record {
       whole = omega (arith, s .part);
       positive = p;
+      present = s .some;
       lift = λ t i l o. ≈-trans (≈-num (ap (λ c. c + (T - U 1 ls) * 0) (passing-only 1 ls i l)) (one-mass ls t (λ a. indicator (eqb a i)) 0 (o .places) (o .nobodys) T p))
           (record { cross = omega arith; left = omega arith; right = mul-pos p (mul-pos (s .some) q) });
       some = λ t o. ≈-trans (≈-num (ap (λ c. c + (T - U 1 ls) * 0) (passing-all 1 ls 1)) (one-mass ls t (λ a. 1) 0 (o .places) (o .nobodys) T p))
@@ -157,6 +159,7 @@ known-two T₁ T₂ ls q s₁ s₂ =
     record {
       whole = omega (arith, ap (λ x. x * T₂) e₁, ap (λ x. x * E₁) e₂);
       positive = mul-pos p₁ p₂;
+      present = omega (arith, mul-pos (s₁ .some) p₂);
       lift = λ t i l o. ≈-trans
           (≈-num (ap₂ (λ x y. X * (T₂ * x + T₁ * y) + E₁ * E₂ * 0 * d) (passing-only 1 ls i l) (passing-only 2 ls i l)) (two-mass ls t (λ a. indicator (eqb a i)) 0 (o .places) (o .nobodys) T₁ T₂ s₁ s₂))
           (record { cross = cross-lift X (E₁ * E₂) d (S ls) T₁ T₂ _ _; left = mul-pos p₁ (mul-pos p₂ p); right = mul-pos (mul-pos p₁ p₂) (mul-pos p q) });

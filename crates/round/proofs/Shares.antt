@@ -12,7 +12,7 @@ use Rattle.laws.specs.Sum.{over}
 use Rattle.laws.specs.Fraction.{Fraction, _//_, _⊕_, _⊗_, _≈_, sum}
 use Rattle.laws.specs.Plan.{after, Every, Drawable, paths, weight, mass}
 use Rattle.laws.proofs.Sums.{over-ext}
-use Rattle.laws.proofs.Fractions.{≈-refl, ≈-sym, ≈-trans, ⊕-≈, ⊗-≈, ⊗-assoc, sum-≈, sum-cut, sum-part}
+use Rattle.laws.proofs.Fractions.{pos-left, ≈-refl, ≈-sym, ≈-trans, ⊕-≈, ⊗-≈, ⊗-assoc, sum-≈, sum-cut, sum-part}
 use Rattle.laws.proofs.Masses.{weighed, mass-after, mass-den, mass-hits, mean-classes, every-map, every-after}
 use Rattle.round.specs.Round.{Lift, liftAt, S, D, oldWeight, newWeight, weights, weightAt}
 use Rattle.round.specs.Choice.{Preliminary, noUnit, unitAt, selection, fresh, preliminary, keyfitz, select, plan}
@@ -222,6 +222,11 @@ module _ (ds : Donors) (ls : List Lift) (q : 0 < S ls) (p : 0 < D ds ls) (sums :
     unfolding preliminaryShare
     preliminary-mass t = held-≈ ds ls sums _ _ (λ h _. weighed t (preliminary ds ls h) (drawable-preliminary ds ls p h) .agree)
 
+    pub present : 0 < preliminaryShare ds ls any .num
+    present =
+        let e = ≈-trans (preliminary-mass any) (k .some any (record { places = λ _ _. refl; nobodys = refl })) in
+        pos-left (preliminaryShare ds ls any .num) Z (rw (e .cross) (mul-pos (k .present) (e .left)))
+
     pub preliminaries : (i : ℕ) → i < length ls
         → preliminaryShare ds ls (comes i) ≈ preliminaryShare ds ls any ⊗ oldWeight ds ls (liftAt ls i) // (D ds ls * S ls)
     preliminaries i l =
@@ -242,6 +247,7 @@ pub shares : SharesTheorem
 unfolding D
 shares None ls f = record {
   shares = none-shared ls (f .positive);
+  present = λ p. absurd (omega arith);
   preliminaries = λ p. absurd (omega arith);
   whole = none-whole ls (f .positive);
 }
@@ -249,6 +255,7 @@ shares (One T) ls f =
     let s = f .donate in let known = known-one T ls (f .positive) s in let p = one-positive s in let t : 0 < T = omega (arith, s .some, s .part) in
     record {
       shares = shared (One T) ls (f .positive) p t _ _ _ known;
+      present = λ _. present (One T) ls (f .positive) p t _ _ _ known;
       preliminaries = λ _. preliminaries (One T) ls (f .positive) p t _ _ _ known;
       whole = ≈-trans (plan-whole (One T) ls (f .positive) p t) (held-whole (One T) ls s);
     }
@@ -257,6 +264,7 @@ shares (Two T₁ T₂) ls f =
     let t : (0 < T₁) × (0 < T₂) = (omega (arith, s .0 .some, s .0 .part), omega (arith, s .1 .some, s .1 .part)) in
     record {
       shares = shared (Two T₁ T₂) ls (f .positive) p t _ _ _ known;
+      present = λ _. present (Two T₁ T₂) ls (f .positive) p t _ _ _ known;
       preliminaries = λ _. preliminaries (Two T₁ T₂) ls (f .positive) p t _ _ _ known;
       whole = ≈-trans (plan-whole (Two T₁ T₂) ls (f .positive) p t) (held-whole (Two T₁ T₂) ls s);
     }

@@ -15,7 +15,7 @@ use Rattle.laws.proofs.Intervals.{pick-here, pick-beyond}
 use Rattle.round.specs.Round.{Lift, liftAt, sent, U, Weight, weightAt, growth, G}
 use Rattle.round.specs.Slices.{lift, lifts, Level, cameOf, multiplierOf, scaled, Room, Balanced}
 use Rattle.round.specs.declared.Scale.{Scale}
-use Rattle.round.proofs.Weights.{dropped-G}
+use Rattle.round.proofs.Weights.{dropped-G, G-le}
 
 -- ---- the lifts of the slices
 
@@ -123,11 +123,6 @@ pub pick-none : (s : Scale) (ls : List Lift) (q : ℕ) → Sought (grows s) ls (
 pick-none s ls q = seek-none (ap (λ ns. pick ns q) (grows-map s ls))
 
 -- ---- room
-
-G-le : (ws : List Weight) → G ws ≤ total (map (λ w. w .new) ws)
-unfolding G total
-G-le [] = omega arith
-G-le (w ∷ ws) = omega (arith, G-le ws)
 
 pub G-room : {s : Scale} {ls : List Lift} → Room s ls → G (map (scaled s) ls) ≤ 2 ^ 61
 G-room {s} {ls} r = omega (arith, G-le (map (scaled s) ls), total-map (scaled s) (λ w. w .new) ls, r .news)

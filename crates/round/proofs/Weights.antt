@@ -52,6 +52,11 @@ dropped-G ws i e l h = omega (arith, losses ws e, map-le loss (record { old = 0;
 
 -- ---- bounds
 
+pub G-le : (ws : List Weight) → G ws ≤ total (map (λ w. w .new) ws)
+unfolding G total
+G-le [] = omega arith
+G-le (w ∷ ws) = omega (arith, G-le ws)
+
 pub one-positive : {T : ℕ} {ls : List Lift} → Sends 1 T ls → 0 < D (One T) ls
 unfolding D
 one-positive s = s .some
@@ -60,7 +65,7 @@ pub two-positive : {T₁ T₂ : ℕ} {ls : List Lift} → Sends 1 T₁ ls → Se
 unfolding D
 two-positive {T₁} {T₂} {ls} s t = omega (arith, mul-pos {m = U 1 ls} {n = T₂} (s .some) (omega (arith, t .some, t .part)))
 
-D-bound : (ds : Donors) (ls : List Lift) → Donate ds ls → SumsBounded ds → D ds ls ≤ 2 ^ 41
+pub D-bound : (ds : Donors) (ls : List Lift) → Donate ds ls → SumsBounded ds → D ds ls ≤ 2 ^ 41
 unfolding D
 D-bound None ls d b = omega arith
 D-bound (One T) ls d b = omega (arith, d .part)

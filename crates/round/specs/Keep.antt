@@ -4,7 +4,7 @@ use mathlib.Core.Path.{_≡_}
 use mathlib.Core.List.{List, map}
 use lib.ListN.{length}
 use Rattle.laws.specs.Sum.{Σ, total}
-use Rattle.laws.specs.Fraction.{Fraction, _//_, _≈_}
+use Rattle.laws.specs.Fraction.{Fraction, _//_, _⊗_, _≈_, _≲_}
 use Rattle.laws.specs.Plan.{paths, weight}
 use Rattle.round.specs.Round.{Lift, S, U, D, Weight, weights, weightAt, Fitting}
 use Rattle.round.specs.Choice.{plan, isHeld}
@@ -34,7 +34,7 @@ keptTickets n grid = Σ n (λ i. grid i i)
 -- whose lift is held in their own marking."
 pub record Keeps (T : ℕ) (ls : List Lift) : Type 0 where
   pub most : (times : ℕ) (grid : ℕ → ℕ → ℕ) → Coupling (weights (One T) ls) times grid
-      → keptTickets (length ls) grid * kept (One T) ls .den ≤ tickets (length ls) grid * kept (One T) ls .num
+      → keptTickets (length ls) grid // 1 ≲ tickets (length ls) grid // 1 ⊗ kept (One T) ls
   -- what is kept is the sum of the smaller of both weights over D × S
   pub exactly : kept (One T) ls ≈ total (map (λ w. min (w .old) (w .new)) (weights (One T) ls)) // (D (One T) ls * S ls)
 

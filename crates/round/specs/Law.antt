@@ -11,11 +11,19 @@ use Rattle.round.specs.Slices.{Bounded, Stands}
 use Rattle.round.specs.declared.Donors.{Donors}
 use Rattle.round.specs.declared.Held.{Held}
 
-pub record Lawful (ds : Donors) (ls : List Lift) : Type 0 where
+-- the sums and products of a round within the sheet's bounds
+pub record Small (ds : Donors) (ls : List Lift) : Type 0 where
+  pub scale : D ds ls ≤ 2 ^ 41
   -- "Both weights sum to D × S, at most 2^61."
+  pub whole : D ds ls * S ls ≤ 2 ^ 61
+  pub growths : G (weights ds ls) ≤ 2 ^ 61
+  pub old : (i : ℕ) → i < length ls → weightAt (weights ds ls) i .old ≤ 2 ^ 61
+  pub new : (i : ℕ) → i < length ls → weightAt (weights ds ls) i .new ≤ 2 ^ 61
+
+pub record Lawful (ds : Donors) (ls : List Lift) : Type 0 where
+  -- "Both weights sum to D × S"
   pub olds : total (map (λ w. w .old) (weights ds ls)) ≡ D ds ls * S ls
   pub news : total (map (λ w. w .new) (weights ds ls)) ≡ D ds ls * S ls
-  pub bound : D ds ls * S ls ≤ 2 ^ 61
   -- G is the sum of the losses too
   pub losses : total (map (λ w. w .old - w .new) (weights ds ls)) ≡ G (weights ds ls)
   -- where a lift may be dropped there is a growth above zero
@@ -23,8 +31,10 @@ pub record Lawful (ds : Donors) (ls : List Lift) : Type 0 where
   -- "A round takes at most three draws."
   pub three : (h : Held) → Within 3 (plan ds ls h)
   -- every draw has a value
-  pub drawable : (h : Held) → Stands ds h (length ls) → Drawable (plan ds ls h)
+  pub drawable : Fitting ds ls → (h : Held) → Stands ds h (length ls) → Drawable (plan ds ls h)
+  -- within the sheet's bounds everything fits 64 bits
+  pub fits : Fitting ds ls → Bounded ds ls → Small ds ls
 
--- proved: in every round that a fitting sheet gives, its sums within the sheet's bound
+-- proved: in every round
 abbrev pub LawsTheorem : Type 0
-LawsTheorem = (ds : Donors) (ls : List Lift) → Fitting ds ls → Bounded ds ls → Lawful ds ls
+LawsTheorem = (ds : Donors) (ls : List Lift) → Lawful ds ls

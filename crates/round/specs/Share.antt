@@ -61,7 +61,8 @@ share ds ls j = overHeld ds ls (λ h. weight (chooses j) (paths (plan ds ls h)))
 unfoldable pub preliminaryShare : Donors → List Lift → (Preliminary → Bool) → Fraction
 preliminaryShare ds ls t = overHeld ds ls (λ h. weight t (paths (preliminary ds ls h)))
 
--- Keyfitz's update: if the preliminary unit comes with its old weight over the sum N, the chosen one comes with its new weight over N
+-- Keyfitz's update: if the preliminary unit, one of the list, comes with its old weight over the sum N, the chosen one comes with
+-- its new weight over N
 pub record Updates (ws : List Weight) (N : ℕ) : Type 0 where
   pub updated : (p : Plan ℕ) → Every (λ i. i < length ws) p
       → ((i : ℕ) → i < length ws → weight (λ a. eqb a i) (paths p) ≈ weightAt ws i .old // N)
@@ -74,7 +75,9 @@ UpdatesTheorem = (ws : List Weight) (N : ℕ) → 0 < N → total (map (λ w. w 
 -- "For each lift of the round, b = 0 included, the ways that have it as their lift weigh together exactly b over S."
 pub record Shares (ds : Donors) (ls : List Lift) : Type 0 where
   pub shares : (j : ℕ) → j < length ls → share ds ls j ≈ liftAt ls j .new // S ls
-  -- given that a held lift is here, the lift at place i is preliminary with its old weight over D × S
+  -- where there is a donor (D above 0), a held lift may be here, and given that one is, the lift at place i is preliminary with
+  -- its old weight over D × S
+  pub present : 0 < D ds ls → 0 < preliminaryShare ds ls any .num
   pub preliminaries : 0 < D ds ls → (i : ℕ) → i < length ls
       → preliminaryShare ds ls (comes i) ≈ preliminaryShare ds ls any ⊗ oldWeight ds ls (liftAt ls i) // (D ds ls * S ls)
   -- all paths weigh 1 together
