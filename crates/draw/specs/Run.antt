@@ -27,7 +27,10 @@ unfoldable pub run : {A : Type 0} → ℕ → List ℕ → ℕ → Plan A → Ru
 run m ws at (done a) = finished [] a at
 run m ws at (draw b k) = follow (drawAt m ws at b) (λ v next. run m ws next (k v))
 
--- what is proved of the run of every plan (proofs/Runs.antt): it follows one of the plan's paths
+-- what is proved of the run of every plan (proofs/Runs.antt)
 pub record FollowsAPath {A : Type 0} (m : ℕ) (p : Plan A) : Type 0 where
+  -- it follows one of the plan's paths
   pub path : (ws vs : List ℕ) (at next : ℕ) (a : A) → run m ws at p ≡ finished vs a next
       → (bounds : ℕ) × List·Memᴰ {A = Path A} (record { values = vs; bounds = bounds; result = a }) (paths p)
+  -- and where it draws the values of a path, that path's result is its result
+  pub result : (ws : List ℕ) (at next : ℕ) (a : A) (q : Path A) → List·Memᴰ q (paths p) → run m ws at p ≡ finished (q .values) a next → q .result ≡ a

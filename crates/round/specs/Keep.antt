@@ -1,5 +1,5 @@
 -- How often a held lift is kept, and that no coupling with the same proportions keeps more ("What demand 3 weighs" of document 01).
-use Prim.Native.Nat.{ℕ, _*_, _≤_, _<_, min}
+use Prim.Native.Nat.{ℕ, _*_, _<_, min}
 use mathlib.Core.Path.{_≡_}
 use mathlib.Core.List.{List, map}
 use lib.ListN.{length}
