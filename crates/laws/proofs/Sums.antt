@@ -124,10 +124,7 @@ unfolding over total
 
 -- an element's part of the sum
 pub map-le : {A : Type 0} (f : A → ℕ) (d : A) (xs : List A) (i : ℕ) → i < length xs → f (getD xs i d) ≤ total (map f xs)
-unfolding total
-map-le f d [] i h = omega arith
-map-le f d (x ∷ xs) zero h = omega arith
-map-le f d (x ∷ xs) (suc i) h = omega (arith, map-le f d xs i (omega arith))
+map-le f d xs i l = rw (Σ-map f d xs) at (Σ-term (length xs) i (λ j. f (getD xs j d)) l)
 
 -- ---- by a key
 
@@ -145,3 +142,9 @@ unfolding total totalBy
 Σ-totalBy key value d n (x ∷ xs) h =
     Σ-add n (λ k. cond (eqb (key x) k) (value x) 0) (λ k. totalBy key value k xs)
     ∙ ap₂ _+_ (cond-one n (key x) (value x) (h 0 (omega arith))) (Σ-totalBy key value d n xs (λ i l. h (suc i) (omega arith)))
+
+-- a sum by key as the sum of a list
+pub totalBy-map : {A : Type 0} (key value : A → ℕ) (k : ℕ) (xs : List A) → totalBy key value k xs ≡ total (map (λ x. cond (eqb (key x) k) (value x) 0) xs)
+unfolding total totalBy
+totalBy-map key value k [] = refl
+totalBy-map key value k (x ∷ xs) = ap (λ t. cond (eqb (key x) k) (value x) 0 + t) (totalBy-map key value k xs)

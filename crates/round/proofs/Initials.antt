@@ -9,6 +9,7 @@ use Rattle.laws.specs.Sum.{Σ}
 use Rattle.laws.specs.Fraction.{Fraction, _//_, _⊗_, _≈_, sum}
 use Rattle.laws.proofs.Sums.{Σ-mul, Σ-map}
 use Rattle.laws.proofs.Fractions.{≈-refl, ≈-sym, ≈-trans, ≈-num, ⊕-≈, ⊕-same, ⊗-≈, ⊗-assoc, ⊗-distrib-right, sum-≈, sum-den, sum-same, sum-add, sum-part, sum-mix}
+use Rattle.round.proofs.Weights.{U-sum}
 use Rattle.round.specs.Round.{Lift, liftAt, sent, U, Sends, Donate}
 use Rattle.round.specs.Share.{Initial, here, elsewhere, heldOf, overInitial, overHeld}
 use Rattle.round.specs.declared.Donors.{Donors}
@@ -80,9 +81,8 @@ held-mix (Two T₁ T₂) ls p m a g u v =
     (initial-mix 1 T₁ ls (p .0) m (λ x i. overInitial 2 T₂ ls (λ y. a (heldOf x y) i)) g (λ x i l. initial-den 2 T₂ ls _ (p .1) (λ y. u (heldOf x y) i l)) v)
 
 pub sent-all : (k : ℕ) (ls : List Lift) (x : ℕ) → Σ (length ls) (λ i. sent k (liftAt ls i) * x) ≡ U k ls * x
-unfolding U
 sent-all k ls x =
-    Σ-mul (length ls) (λ i. sent k (liftAt ls i)) x ∙ ap (λ u. u * x) (Σ-map (sent k) (record { old = 0; donor = 0; new = 0 }) ls)
+    rw (U-sum k ls) (Σ-mul (length ls) (λ i. sent k (liftAt ls i)) x ∙ ap (λ u. u * x) (Σ-map (sent k) (record { old = 0; donor = 0; new = 0 }) ls))
 
 initial-whole : (k T : ℕ) (ls : List Lift) → Sends k T ls → (f : Initial → Fraction) → ((x : Initial) → f x ≈ 1 // 1) → overInitial k T ls f ≈ 1 // 1
 initial-whole k T ls s f h =

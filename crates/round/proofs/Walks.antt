@@ -15,7 +15,7 @@ use Rattle.laws.proofs.Intervals.{pick-here, pick-beyond}
 use Rattle.round.specs.Round.{Lift, liftAt, sent, U, Weight, weightAt, growth, G}
 use Rattle.round.specs.Slices.{lift, lifts, Level, cameOf, multiplierOf, scaled, Room, Balanced}
 use Rattle.round.specs.declared.Scale.{Scale}
-use Rattle.round.proofs.Weights.{dropped-G, G-le}
+use Rattle.round.proofs.Weights.{U-sum, dropped-G, G-le}
 
 -- ---- the lifts of the slices
 
@@ -51,8 +51,8 @@ module _ {ms ds bs : List ℕ} (l : Level ms ds bs) where
   old-level = record { donors = l .donors; news = refl }
 
   pub came-said : (k : ℕ) {u : ℕ} → u ≡ cameOf k ms ds → u ≡ U k (lifts ms ds bs)
-  unfolding cameOf U
-  came-said k e = e ∙ sent-same k old-level l
+  unfolding cameOf
+  came-said k e = e ∙ rw (U-sum, U-sum) (sent-same k old-level l)
 
   pub came-room : (k : ℕ) → U k (lifts ms ds bs) ≤ 2 ^ 61 → cameOf k ms ds ≤ 2 ^ 61
   came-room k r = omega (arith, came-said k refl)

@@ -6,7 +6,7 @@ use native.Mathlib.Nat.{mul-pos, mul-le-mul}
 use native.Mathlib.Omega.{arith}
 use lib.ListN.{length}
 use Rattle.laws.specs.Sum.{total}
-use Rattle.laws.proofs.Sums.{total-map, total-mul, total-add, map-le}
+use Rattle.laws.proofs.Sums.{total-map, total-mul, total-add, map-le, totalBy-map}
 use Rattle.round.specs.Round.{Lift, S, sent, U, D, oldWeight, newWeight, Weight, weights, weightAt, G, Sends, Donate, Fitting}
 use Rattle.round.specs.Slices.{largestSum, Bounded, SumsBounded}
 use Rattle.round.specs.declared.Donors.{Donors}
@@ -18,13 +18,18 @@ loss w = w .old - w .new
 
 -- ---- both weights sum to D × S
 
+-- U by the lifts' own parts
+pub U-sum : (k : ℕ) (ls : List Lift) → U k ls ≡ total (map (sent k) ls)
+unfolding U
+U-sum k ls = totalBy-map (λ l. l .donor) (λ l. l .old) k ls
+
 old-total : (ds : Donors) (ls : List Lift) → total (map (oldWeight ds ls) ls) ≡ D ds ls * S ls
-unfolding oldWeight D U
+unfolding oldWeight D
 old-total None ls = total-mul (λ _. 0) 0 ls ∙ omega arith
-old-total (One T) ls = total-mul (sent 1) (S ls) ls
+old-total (One T) ls = rw (U-sum 1 ls) (total-mul (sent 1) (S ls) ls)
 old-total (Two T₁ T₂) ls =
-    total-mul (λ l. sent 1 l * T₂ + sent 2 l * T₁) (S ls) ls
-    ∙ ap (λ t. t * S ls) (total-add (λ l. sent 1 l * T₂) (λ l. sent 2 l * T₁) ls ∙ ap₂ _+_ (total-mul (sent 1) T₂ ls) (total-mul (sent 2) T₁ ls))
+    rw (U-sum 1 ls, U-sum 2 ls) (total-mul (λ l. sent 1 l * T₂ + sent 2 l * T₁) (S ls) ls
+    ∙ ap (λ t. t * S ls) (total-add (λ l. sent 1 l * T₂) (λ l. sent 2 l * T₁) ls ∙ ap₂ _+_ (total-mul (sent 1) T₂ ls) (total-mul (sent 2) T₁ ls)))
 
 pub old-sum : (ds : Donors) (ls : List Lift) → total (map (λ w. w .old) (weights ds ls)) ≡ D ds ls * S ls
 unfolding weights

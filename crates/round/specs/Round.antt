@@ -4,7 +4,7 @@ use mathlib.Core.Bool.{cond}
 use mathlib.Core.List.{List, map}
 use lib.ListN.{getD}
 use lib.Dec.{eqb}
-use Rattle.laws.specs.Sum.{total}
+use Rattle.laws.specs.Sum.{total, totalBy}
 use Rattle.round.specs.declared.Donors.{Donors}
 use Rattle.round.specs.declared.Donors.the-variants.{None, One, Two}
 
@@ -22,13 +22,13 @@ liftAt ls i = getD ls i (record { old = 0; donor = 0; new = 0 })
 unfoldable pub S : List Lift → ℕ
 S ls = total (map (λ l. l .new) ls)
 
+-- "U is the part of T that came here", T being the whole old sum of donor k
+unfoldable pub U : ℕ → List Lift → ℕ
+U k ls = totalBy (λ l. l .donor) (λ l. l .old) k ls
+
 -- the old measure that a lift brings from donor k
 abbrev pub sent : ℕ → Lift → ℕ
 sent k l = cond (eqb (l .donor) k) (l .old) 0
-
--- "U is the part of T that came here", T being the whole old sum of donor k
-unfoldable pub U : ℕ → List Lift → ℕ
-U k ls = total (map (sent k) ls)
 
 -- "One donor: D = U." "Two donors: D = U1 × T2 + U2 × T1." Without a donor there is none.
 unfoldable pub D : Donors → List Lift → ℕ

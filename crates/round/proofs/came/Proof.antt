@@ -2,8 +2,9 @@
 use borrow.Author.Needs.{needs}
 use Prim.Native.Nat.{_-_}
 use lib.ListN.{length}
-use mathlib.Core.Path.{refl}
-use Rattle.round.specs.Round.{sent, U}
+use mathlib.Core.Path.{sym}
+use Rattle.round.proofs.Weights.{U-sum}
+use Rattle.round.specs.Round.{sent}
 use Rattle.round.specs.Slices.{lifts, cameOf}
 use Rattle.round.proofs.Walks.{Summed, sum-none, sum-turn, sum-fits, sum-end}
 use Rattle.round.proofs.came.Statement.{statement}
@@ -16,8 +17,8 @@ abbrev μ-loop : tie.MeasureT-loop
 μ-loop old donor k sum₀ i₀ sum i = length old - i
 
 loop-holds : tie.Need-loop-holds Inv-loop μ-loop
-unfolding U cameOf
-loop-holds c = sum-none refl
+unfolding cameOf
+loop-holds c = sum-none (sym (U-sum _ _))
 
 mul-part : tie.Need-mul-part Inv-loop μ-loop
 mul-part c = search needs
