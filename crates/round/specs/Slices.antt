@@ -79,7 +79,7 @@ multiplierOf s d = cond (eqb d 1) (s .first) (cond (eqb d 2) (s .second) 0)
 abbrev pub scaled : Scale → Lift → Weight
 scaled s l = record { old = l .old * multiplierOf s (l .donor); new = l .new * s .new }
 
--- the multipliers that give a round's weights
+-- the multipliers that give a round's weights, D and U2 × T1 with them
 unfoldable pub scaleOf : Donors → List Lift → Scale
 scaleOf None ls = record { new = 0; first = 0; second = 0; odds = 0 }
 scaleOf (One T) ls = record { new = U 1 ls; first = S ls; second = 0; odds = 0 }
