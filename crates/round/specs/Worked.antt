@@ -1,13 +1,14 @@
--- The document's small rounds worked through, M1 to M11, as one table.
-use Prim.Native.Nat.{ℕ, _-_, _^_}
+-- The document's small rounds worked through, M1 to M11, as one table; and the exact shares of two small rounds, to be computed.
+use Prim.Native.Nat.{ℕ, _*_, _-_, _^_}
 use mathlib.Core.Bool.{Bool, true, false, _&&_}
 use mathlib.Core.List.{List, [], _∷_}
-use lib.Dec.{eqb}
+use lib.Dec.{ltb, eqb}
 use Rattle.draw.specs.Draw.{largest, drawAt}
 use Rattle.draw.specs.declared.Drawn.{Drawn}
 use Rattle.draw.specs.declared.Drawn.the-variants.{Value, Short as Ended}
-use Rattle.round.specs.Round.{Lift}
+use Rattle.round.specs.Round.{Lift, liftAt, S}
 use Rattle.round.specs.Choice.{selected}
+use Rattle.round.specs.Share.{share}
 use Rattle.round.specs.Slices.{lift}
 use Rattle.round.specs.declared.Donors.{Donors}
 use Rattle.round.specs.declared.Donors.the-variants.{One, Two}
@@ -71,3 +72,14 @@ cases =
     ∷ chosen (One 10) noChance (Single 0) (1 ∷ 0 ∷ []) (At 1 2 2)
     ∷ chosen (One 10) noChance (Single 0) (2 ∷ 0 ∷ []) (At 1 2 2)
     ∷ []
+
+-- whether the lift at place j has exactly b over S, multiplied out
+abbrev pub rightShare : Donors → List Lift → ℕ → Bool
+rightShare ds ls j = eqb (share ds ls j .num * S ls) (liftAt ls j .new * share ds ls j .den) && ltb 0 (share ds ls j .den)
+
+-- one donor that keeps a lift elsewhere, and two donors that do: one lift grows, another shrinks
+abbrev pub rightShares : Bool
+rightShares =
+    rightShare (One 4) (lift 1 1 2 ∷ lift 2 1 1 ∷ []) 0
+    && (rightShare (One 4) (lift 1 1 2 ∷ lift 2 1 1 ∷ []) 1
+    && (rightShare (Two 2 3) (lift 1 1 2 ∷ lift 1 2 1 ∷ []) 0 && rightShare (Two 2 3) (lift 1 1 2 ∷ lift 1 2 1 ∷ []) 1))
