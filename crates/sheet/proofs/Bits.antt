@@ -1,0 +1,102 @@
+-- Laws of numbers made of bits. Each goes by induction along the bits.
+use Prim.Native.Nat.{ℕ, zero, suc, _+_, _*_, _/_, _%_, _^_, _≤_, _<_, max}
+use mathlib.Core.Path.{_≡_, refl, ap₂, _∙_}
+use mathlib.Core.Bool.{Bool, true, false, _&&_, _||_}
+use native.Mathlib.Nat.{pow-suc}
+use native.Mathlib.Omega.{arith}
+use lib.Arith.{bin-ind}
+use lib.Bits.{bitOr, or-step, or-shr}
+use lib.Count.{ones, ones-step}
+use lib.Dec.{eqb, ltb}
+use borrow.Author.Tests.{eqb-true, ltb-true, eq-eqb, lt-ltb}
+use Rattle.laws.specs.Sum.{over, indicator, count}
+use Rattle.sheet.specs.Tables.{bits}
+
+-- ---- the lowest bit, and the others
+
+low : (b : Bool) (x : ℕ) → (indicator b + 2 * x) % 2 ≡ indicator b
+low true x = omega arith
+low false x = omega arith
+
+high : (b : Bool) (x : ℕ) → (indicator b + 2 * x) / 2 ≡ x
+high true x = omega arith
+high false x = omega arith
+
+low-le : (b : Bool) → indicator b ≤ 1
+low-le true = omega arith
+low-le false = omega arith
+
+-- ---- all bits
+
+-- the bits below n tell the number
+pub bits-ext : (n : ℕ) {p q : ℕ → Bool} → ((t : ℕ) → t < n → p t ≡ q t) → bits n p ≡ bits n q
+unfolding bits
+bits-ext zero h = refl
+bits-ext (suc n) h = ap₂ (λ b x. indicator b + 2 * x) (h 0 (omega arith)) (bits-ext n (λ t l. h (suc t) (omega arith)))
+
+-- n bits make a number below 2 ^ n
+pub bits-lt : (n : ℕ) (p : ℕ → Bool) → bits n p < 2 ^ n
+unfolding bits
+bits-lt zero p = omega arith
+bits-lt (suc n) p = omega (arith, pow-suc 2 n, low-le (p 0), bits-lt n (λ t. p (suc t)))
+
+-- as many bits are set as pass the test
+pub bits-ones : (n : ℕ) (p : ℕ → Bool) → ones (bits n p) ≡ count n p
+unfolding bits ones over
+bits-ones zero p = refl
+bits-ones (suc n) p = ones-step (bits (suc n) p) ∙ rw (low, high, bits-ones n)
+
+-- ---- `|`
+
+-- the lowest bit of a | b
+or-low : (a b : ℕ) → bitOr a b % 2 ≡ max (a % 2) (b % 2)
+or-low a b = omega (arith, or-step a b)
+
+-- of two bits the larger is set if either is
+max-or : (a b : Bool) → max (indicator a) (indicator b) ≡ indicator (a || b)
+max-or true true = refl
+max-or true false = refl
+max-or false b = omega arith
+
+-- it goes bit by bit
+pub bits-or : (n : ℕ) (p q : ℕ → Bool) → bitOr (bits n p) (bits n q) ≡ bits n (λ t. p t || q t)
+unfolding bits
+bits-or zero p q = refl
+bits-or (suc n) p q = rw or-step (simp (low, high, max-or, bits-or n) (omega arith))
+
+-- it is associative
+pub or-assoc : (a b c : ℕ) → bitOr (bitOr a b) c ≡ bitOr a (bitOr b c)
+or-assoc =
+    bin-ind (λ a. (b c : ℕ) → bitOr (bitOr a b) c ≡ bitOr a (bitOr b c)) (λ b c. refl)
+    (λ a ih b c. rw (or-step (bitOr a b) c, or-step a (bitOr b c), or-shr a b 1, or-shr b c 1, ih) (omega (arith, or-low a b, or-low b c)))
+
+-- ---- no bit, and one
+
+-- where no bit is set
+pub bits-none : (n : ℕ) {p : ℕ → Bool} → ((t : ℕ) → t < n → p t ≡ false) → bits n p ≡ 0
+unfolding bits
+bits-none zero h = refl
+bits-none (suc n) h = rw (h 0 (omega arith), bits-none n (λ t l. h (suc t) (omega arith)))
+
+-- where bit k alone is set
+bits-one : (n k : ℕ) {p : ℕ → Bool} → k < n → p k ≡ true → ((t : ℕ) → (t ≡ k → ⊥) → p t ≡ false) → bits n p ≡ 2 ^ k
+unfolding bits
+bits-one zero k l e h = omega arith
+bits-one (suc n) zero l e h = rw (e, bits-none n (λ t l. h (suc t) (λ q. omega arith)))
+bits-one (suc n) (suc k) l e h =
+    rw (h 0 (λ q. omega arith), bits-one n k (omega arith) e (λ t d. h (suc t) (λ q. d (omega arith)))) (omega (arith, pow-suc 2 k))
+
+-- two tests that do not both pass
+not-both : (a b : Bool) → (a ≡ true → b ≡ true → ⊥) → (a && b) ≡ false
+not-both true true h = absurd (h refl refl)
+not-both true false h = refl
+not-both false b h = refl
+
+-- the bit of round r among the n from f up, for measure m
+module _ (n r m f : ℕ) where
+  pub bit-none : ((t : ℕ) → t < n → r ≡ f + t → 0 < m → ⊥) → bits n (λ t. eqb r (f + t) && ltb 0 m) ≡ 0
+  bit-none h = bits-none n (λ t l. not-both _ _ (λ x y. h t l (eqb-true _ _ x) (ltb-true _ _ y)))
+
+  pub bit-one : (k : ℕ) → k < n → r ≡ f + k → 0 < m → bits n (λ t. eqb r (f + t) && ltb 0 m) ≡ 2 ^ k
+  bit-one k l e g =
+      bits-one n k l (rw (eq-eqb r (f + k) e, lt-ltb 0 m g)) (λ t d. not-both (eqb r (f + t)) (ltb 0 m) (λ x y. d (omega (arith, eqb-true r (f + t) x))))

@@ -1,0 +1,11 @@
+pub mod Cases
+pub mod Readings
+pub mod Trips
+pub mod Lifts
+pub mod Walks
+pub mod Tables
+pub mod Bits
+pub mod Searches
+pub mod Sending
+pub mod Placing
+pub mod Verdicts

@@ -1,0 +1,65 @@
+-- The laws of the loop over the words of a sheet: one for each way out of a turn, and two for the end.
+use Prim.Native.Nat.{ℕ, zero, suc, _+_, _≤_, _<_}
+use mathlib.Core.Path.{_≡_, refl}
+use mathlib.Core.Bool.{Bool, true, false, cond}
+use mathlib.Core.List.{List}
+use native.Mathlib.Numerals.{add-one}
+use native.Mathlib.Omega.{arith}
+use lib.Dec.{eqb}
+use lib.ListN.{length, getD, drop, drop-of-length-le}
+use lib.Seq.{drop-cons}
+use borrow.Author.Tests.{eq-eqb, ne-eqb}
+use Rattle.sheet.specs.Sheet.{kind, liftKind, endKind}
+use Rattle.sheet.specs.Reading.{next, fault, numbered, Reading, faulty, sound, unless, readFrom, reading}
+use Rattle.sheet.specs.Refusal.{toldOfWords}
+use Rattle.sheet.specs.declared.Before.{Before}
+use Rattle.sheet.specs.declared.Refusal.{Refusal}
+use Rattle.sheet.specs.declared.Judged.{Judged}
+use Rattle.sheet.specs.declared.Judged.the-variants.{Faulty, Sound}
+
+-- a word's reading, then what follows if it is sound
+abbrev andThen : Reading → Reading → Reading
+andThen (faulty x) rest = faulty x
+andThen sound rest = rest
+
+-- which is what `unless` says
+unless-then : (n i : ℕ) (rest : Reading) → andThen (unless n i sound) rest ≡ unless n i rest
+unless-then zero i rest = refl
+unless-then (suc n) i rest = refl
+
+-- the loop's invariant: reading on from word i, with s told before it, reads the sheet, and s tells no more lifts than words
+pub record Kept (ws : List ℕ) (s : Before) (i : ℕ) : Type 0 where
+  pub same : readFrom s i (drop i ws) ≡ reading ws
+  pub few : s .lifts ≤ i
+
+-- a word is at most one lift more
+more : (t : Bool) {n i : ℕ} → n ≤ i → cond t (n + 1) n ≤ i + 1
+more true h = omega arith
+more false h = omega arith
+
+module _ {ws : List ℕ} {s : Before} {i : ℕ} {r : Judged} where
+  -- a turn whose word is judged x
+  turn : {x : Judged} → i < length ws → Kept ws s i → toldOfWords r ≡ unless (fault s (getD ws i 0)) i sound → r ≡ x
+      → andThen (toldOfWords x) (readFrom (next s (getD ws i 0)) (i + 1) (drop (i + 1) ws)) ≡ reading ws
+  unfolding readFrom
+  turn h k j e = rw (← e, j, unless-then (fault s (getD ws i 0)) i, ← k .same, drop-cons ws i 0, add-one i)
+
+  pub stops : {x : Refusal} → i < length ws → Kept ws s i → toldOfWords r ≡ unless (fault s (getD ws i 0)) i sound → r ≡ Faulty x
+      → toldOfWords (Faulty x) ≡ reading ws
+  stops h k j e = turn h k j e
+
+  pub goes-on : {t : Before} → i < length ws → Kept ws s i → toldOfWords r ≡ unless (fault s (getD ws i 0)) i sound → r ≡ Sound
+      → t ≡ next s (getD ws i 0) → Kept ws t (i + 1)
+  goes-on h k j e n = rw n (record { same = turn h k j e; few = more (eqb (kind (getD ws i 0)) liftKind) (k .few) })
+
+module _ {ws : List ℕ} {s : Before} {i : ℕ} (past : length ws ≤ i) (kept : Kept ws s i) where
+  -- past the last word the kind decides
+  last : cond (eqb (s .kind) endKind) sound (faulty (numbered 2 i)) ≡ reading ws
+  unfolding readFrom
+  last = rw (← kept .same, drop-of-length-le ws past)
+
+  pub ends : s .kind ≡ endKind → sound ≡ reading ws
+  ends e = rw (eq-eqb _ _ e) at last
+
+  pub stays-open : (s .kind ≡ endKind → ⊥) → faulty (numbered 2 i) ≡ reading ws
+  stays-open e = rw (ne-eqb _ _ e) at last

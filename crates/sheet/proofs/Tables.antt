@@ -1,0 +1,139 @@
+-- Tables by round: a walk over the lifts adds each lift's value to its round's number; what a table has and what the lifts left
+-- would add are together the whole.
+use Prim.Native.Nat.{ℕ, zero, suc, _+_, _*_, _^_, _≤_, _<_}
+use mathlib.Core.Path.{_≡_, refl, sym, ap, _∙_}
+use mathlib.Core.Bool.{Bool, true, false, cond}
+use mathlib.Core.List.{List, [], _∷_}
+use native.Mathlib.Nat.{add-assoc, zero-add, add-zero}
+use native.Mathlib.Omega.{arith}
+use lib.Dec.{eqb}
+use lib.ListN.{length, getD, set, drop, replicate, length-set, length-replicate}
+use lib.Seq.{getD-set-same, getD-set-other, ext-getD}
+use borrow.Author.Tests.{eq-eqb, eqb-true, eqb-false}
+use Rattle.laws.specs.Sum.{totalBy, indicator}
+use Rattle.sheet.specs.Sheet.{mostRounds, kind, liftKind, heldKind, Lift, liftOf, lifts}
+use Rattle.sheet.specs.Reading.{Legible}
+use Rattle.sheet.specs.Tables.{tabulate, table, fieldOf}
+use Rattle.sheet.specs.declared.Side.{Side}
+use Rattle.sheet.specs.declared.Side.the-variants.{Old, New}
+use Rattle.sheet.specs.declared.Field.{Field}
+use Rattle.sheet.specs.declared.Field.the-variants.{Number, Round, Measure, Held, Unit}
+use Rattle.sheet.proofs.Walks.{Between, between-none, behind, turn, last}
+
+-- ---- tables
+
+pub getD-tabulate : (n : ℕ) (f : ℕ → ℕ) (k : ℕ) → k < n → getD (tabulate n f) k 0 ≡ f k
+unfolding tabulate
+getD-tabulate zero f k h = absurd (omega arith)
+getD-tabulate (suc n) f zero h = refl
+getD-tabulate (suc n) f (suc k) h = getD-tabulate n (λ i. f (suc i)) k (omega arith)
+
+pub length-tabulate : (n : ℕ) (f : ℕ → ℕ) → length (tabulate n f) ≡ n
+unfolding tabulate
+length-tabulate zero f = refl
+length-tabulate (suc n) f = ap suc (length-tabulate n (λ i. f (suc i)))
+
+-- a list is a table by its elements
+pub tabulated : {n : ℕ} {l : List ℕ} (f : ℕ → ℕ) → length l ≡ n → ((k : ℕ) → k < n → getD l k 0 ≡ f k) → l ≡ tabulate n f
+tabulated {n} {l} f e h = ext-getD 0 l (tabulate n f) (e ∙ sym (length-tabulate n f)) (λ i p. h i (rw e at p) ∙ sym (getD-tabulate n f i (rw e at p)))
+
+getD-zeros : (n r : ℕ) → getD {A = ℕ} (replicate n 0) r 0 ≡ 0
+getD-zeros zero r = refl
+getD-zeros (suc n) zero = refl
+getD-zeros (suc n) (suc r) = getD-zeros n r
+
+-- ---- gathering by key
+
+-- the whole of each round is what its lifts add, one after another
+pub record Folds (op : ℕ → ℕ → ℕ) (key value : Lift → ℕ) (whole : ℕ → List Lift → ℕ) : Type 0 where
+  pub assoc : (a b c : ℕ) → op (op a b) c ≡ op a (op b c)
+  pub left : (a : ℕ) → op 0 a ≡ a
+  pub right : (a : ℕ) → op a 0 ≡ a
+  pub none : (r : ℕ) → whole r [] ≡ 0
+  pub some : (r : ℕ) (l : Lift) (ls : List Lift) → whole r (l ∷ ls) ≡ op (cond (eqb (key l) r) (value l) 0) (whole r ls)
+
+-- the lifts before position i are gathered in a table
+pub record Gathered (op : ℕ → ℕ → ℕ) (whole : ℕ → List Lift → ℕ) (ws tbl : List ℕ) (i : ℕ) : Type 0 where
+  pub between : Between ws i
+  pub long : length tbl ≡ mostRounds + 1
+  pub same : (r : ℕ) → op (getD tbl r 0) (whole r (lifts (drop i ws))) ≡ whole r (lifts ws)
+
+module _ {op : ℕ → ℕ → ℕ} {key value : Lift → ℕ} {whole : ℕ → List Lift → ℕ} (f : Folds op key value whole) where
+  -- adding v to the number at k adds it to what stands at k and to nothing else
+  bump : (tbl : List ℕ) (k v r : ℕ) → k < length tbl → getD (set tbl k (op (getD tbl k 0) v)) r 0 ≡ op (getD tbl r 0) (cond (eqb k r) v 0)
+  bump tbl k v r h = go (eqb k r) refl
+    where
+      go : (t : Bool) → eqb k r ≡ t → getD (set tbl k (op (getD tbl k 0) v)) r 0 ≡ op (getD tbl r 0) (cond t v 0)
+      go true e = rw (← eqb-true k r e) (getD-set-same tbl k (op (getD tbl k 0) v) 0 h)
+      go false e = getD-set-other tbl k r (op (getD tbl k 0) v) 0 (λ q. eqb-false k r e (sym q)) ∙ sym (f .right _)
+
+  pub gather-none : {ws tbl : List ℕ} → Legible ws → tbl ≡ replicate (mostRounds + 1) 0 → Gathered op whole ws tbl 0
+  gather-none {ws} l e =
+      record { between = between-none l; long = ap length e ∙ length-replicate {A = ℕ} (mostRounds + 1) 0; same = λ r. ap (λ x. op x (whole r (lifts ws))) (ap (λ t. getD t r 0) e ∙ getD-zeros (mostRounds + 1) r) ∙ f .left _ }
+
+  module _ {ws tbl : List ℕ} {i : ℕ} (g : Gathered op whole ws tbl i) where
+    pub gather-turn : {tbl′ : List ℕ} {k v m : ℕ} → i + 1 < length ws → k ≡ key (liftOf (drop i ws)) → v ≡ value (liftOf (drop i ws))
+        → k < mostRounds + 1 → tbl′ ≡ set tbl k (op (getD tbl k 0) v) → m ≡ indicator (liftOf (drop i ws) .held) → Gathered op whole ws tbl′ (i + (3 + m))
+    gather-turn {tbl′} {k} {v} {m} h ek ev lt et em =
+        let t = turn (g .between) h in
+        let long : k < length tbl = rw (g .long) lt in
+        rw (em, et) (record {
+          between = t .next;
+          long = simp length-set (g .long);
+          same = λ r.
+              ap (λ x. op x (whole r (lifts (drop (behind ws i) ws)))) (bump tbl k v r long) ∙ f .assoc _ _ _
+              ∙ ap (op (getD tbl r 0)) (rw (ek, ev) (sym (ap (whole r) (t .here) ∙ f .some r (liftOf (drop i ws)) _))) ∙ g .same r;
+        })
+
+    pub gather-end : length ws ≤ i + 1 → tbl ≡ table (λ r. whole r (lifts ws))
+    gather-end h =
+        tabulated (λ r. whole r (lifts ws)) (g .long)
+        (λ r p. sym (f .right _) ∙ ap (op (getD tbl r 0)) (sym (ap (whole r) (last (g .between) h) ∙ f .none r)) ∙ g .same r)
+
+-- sums
+pub adds : (side : Side) (field : Field) → Folds _+_ (fieldOf (Round side)) (fieldOf field) (λ r ls. totalBy (fieldOf (Round side)) (fieldOf field) r ls)
+unfolding totalBy
+adds side field = record { assoc = add-assoc; left = zero-add; right = add-zero; none = λ r. refl; some = λ r l ls. refl }
+
+-- no field is above 2^28
+field-le : (field : Field) (ws : List ℕ) → fieldOf field (liftOf ws) ≤ 2 ^ 28
+field-le Number ws = omega arith
+field-le (Round Old) ws = omega arith
+field-le (Round New) ws = omega arith
+field-le (Measure Old) ws = omega arith
+field-le (Measure New) ws = omega arith
+field-le Held ws = flag (eqb (kind (getD ws 3 0)) heldKind)
+  where
+    flag : (t : Bool) → indicator t ≤ 2 ^ 28
+    flag true = omega arith
+    flag false = omega arith
+field-le Unit ws = omega arith
+
+cond-le : (t : Bool) (v : ℕ) → cond t v 0 ≤ v
+cond-le true v = omega arith
+cond-le false v = omega arith
+
+-- so no sum is above 2^28 for each word
+pub tally-le : (side : Side) (field : Field) (r : ℕ) (ws : List ℕ) → totalBy (fieldOf (Round side)) (fieldOf field) r (lifts ws) ≤ length ws * 2 ^ 28
+unfolding totalBy lifts
+tally-le side field r [] = omega arith
+tally-le side field r (w ∷ ws) = go (eqb (kind w) liftKind) (tally-le side field r ws)
+  where
+    sum : List Lift → ℕ
+    sum ls = totalBy (fieldOf (Round side)) (fieldOf field) r ls
+
+    go : (t : Bool) → sum (lifts ws) ≤ length ws * 2 ^ 28 → sum (cond t (liftOf (w ∷ ws) ∷ lifts ws) (lifts ws)) ≤ suc (length ws) * 2 ^ 28
+    go true h =
+        omega (arith, field-le field (w ∷ ws), cond-le (eqb (fieldOf (Round side) (liftOf (w ∷ ws))) r) (fieldOf field (liftOf (w ∷ ws))))
+    go false h = omega arith
+
+-- there is room for what a turn adds
+pub tally-room : (side : Side) (field : Field) {ws tbl : List ℕ} {i k v : ℕ} → Legible ws
+    → Gathered _+_ (λ r ls. totalBy (fieldOf (Round side)) (fieldOf field) r ls) ws tbl i → i + 1 < length ws → k ≡ fieldOf (Round side) (liftOf (drop i ws))
+    → v ≡ fieldOf field (liftOf (drop i ws)) → getD tbl k 0 + v < 2 ^ 64
+unfolding totalBy
+tally-room side field {ws} {tbl} {i} {k} {v} l g h ek ev =
+    let t = turn (g .between) h in
+    let e : totalBy (fieldOf (Round side)) (fieldOf field) k (lifts (drop i ws)) ≡ v + totalBy (fieldOf (Round side)) (fieldOf field) k (lifts (drop (behind ws i) ws)) =
+    rw (t .here, ← ek, ← ev, eq-eqb k k refl) in
+    omega (arith, e, g .same k, tally-le side field k ws, l .short)

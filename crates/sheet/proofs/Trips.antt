@@ -1,0 +1,249 @@
+-- Reading and writing are inverse. The words of lifts pass one by one and tell these lifts (`lifts-pass`, `lifts-back`); words that
+-- pass are parsed into those of some lifts (`parse`), and so these are the lifts that they tell.
+use Prim.Native.Nat.{ℕ, zero, suc, _+_, _^_, _≤_, _<_}
+use mathlib.Core.Path.{_≡_, refl, sym, ap, ap₂, _∙_}
+use mathlib.Core.Bool.{Bool, true, false, cond, not, _&&_, _||_, true≢false, false≢true, not-eq-not, and-eq-true-iff}
+use mathlib.Core.List.{List, [], _∷_, _++_}
+use native.Mathlib.Nat.{zero-add}
+use native.Mathlib.Omega.{arith}
+use lib.ListN.{length, getD}
+use lib.Dec.{eqb, ltb}
+use borrow.Author.Tests.{eqb-true, eqb-false, eq-eqb, ne-eqb, leb-false, lt-leb, ltb-false, le-ltb, not-false}
+use Rattle.sheet.specs.Sheet.{mostLifts, mostRounds, largestSum, kind, payload, liftKind, oldKind, newKind, heldKind, endKind, Place, placeOf, Lift, lifts, word, placeWord, wordsOf, written, sheetOf}
+use Rattle.sheet.specs.Reading.{start, next, follows, outOfSequence, misnumbered, misplaced, miscounted, mismarked, fault, Reading, sound, unless, readFrom}
+use Rattle.sheet.specs.Law.{Placed, Proper, Listed, Listable, ReadTheorem, WrittenTheorem}
+use Rattle.sheet.specs.declared.Before.{Before}
+
+-- what the words before tell, from its parts
+abbrev state : ℕ → ℕ → ℕ → ℕ → Before
+state k n o c = record { kind = k; number = n; old = o; lifts = c }
+
+-- the held mark of a lift, and what follows
+abbrev marked : Bool → List ℕ → List ℕ
+marked held ws = cond held (word heldKind 0 ∷ []) [] ++ ws
+
+-- a kind behind which no lift is under way
+abbrev Free : ℕ → Type 0
+Free k = (j : ℕ) → follows k j ≡ (eqb j liftKind || eqb j endKind || eqb k newKind && eqb j heldKind)
+
+-- ---- a word that passes
+
+or-false : (a b : Bool) → (a || b) ≡ false → (a ≡ false) × (b ≡ false)
+or-false true b h = absurd (true≢false h)
+or-false false b h = (refl, h)
+
+either : {C : Type 0} (a b : Bool) → (a || b) ≡ true → (a ≡ true → C) → (b ≡ true → C) → C
+either true b h f g = f refl
+either false b h f g = g h
+
+-- a number for the first of five tests that holds: 0 if none does
+none-holds : (a b c d e : Bool) → cond {A = ℕ} a 2 (cond b 3 (cond c 4 (cond d 5 (cond e 6 0)))) ≡ 0 → (a ≡ false) × (b ≡ false) × (c ≡ false) × (d ≡ false) × (e ≡ false)
+none-holds true b c d e h = absurd (omega arith)
+none-holds false true c d e h = absurd (omega arith)
+none-holds false false true d e h = absurd (omega arith)
+none-holds false false false true e h = absurd (omega arith)
+none-holds false false false false true h = absurd (omega arith)
+none-holds false false false false false h = (refl, refl, refl, refl, refl)
+
+-- what a word without a fault tells, by its kind
+record Passes (s : Before) (w : ℕ) : Type 0 where
+  order : follows (s .kind) (kind w) ≡ true
+  number : kind w ≡ liftKind → s .number < payload w
+  place : (eqb (kind w) oldKind || eqb (kind w) newKind) ≡ true → Placed (placeOf w)
+  count : kind w ≡ endKind → (payload w ≡ s .lifts) × (payload w ≤ mostLifts)
+  mark : kind w ≡ heldKind → (payload w ≡ 0) × (0 < s .old)
+
+passes : (s : Before) (w : ℕ) → fault s w ≡ 0 → Passes s w
+unfolding fault
+passes s w h =
+    let f = none-holds (outOfSequence s w) (misnumbered s w) (misplaced w) (miscounted s w) (mismarked s w) h in
+    record {
+      order = not-false _ (f .0);
+      number = λ e. leb-false _ _ (or-false (eqb (payload w) 0) _ (rw e at (f .1)) .1);
+      place = λ e.
+          let g = or-false _ _ (rw e at (f .2)) in
+          let b = or-false (ltb mostRounds (placeOf w .round)) _ (g .0) in
+          record { round = ltb-false _ _ (b .0); measure = ltb-false _ _ (b .1); nowhere = λ z. eqb-true _ _ (not-false _ (rw (eq-eqb _ _ z) at (g .1))) };
+      count = λ e. let g = or-false _ _ (rw e at (f .3)) in (eqb-true _ _ (not-false _ (g .0)), ltb-false _ _ (g .1));
+      mark = λ e. let g = or-false _ _ (rw e at (f .4)) in (eqb-true _ _ (not-false _ (g .0)), omega (arith, eqb-false (s .old) 0 (g .1)));
+    }
+
+-- ---- words that pass
+
+unless-sound : (n i : ℕ) (r : Reading) → unless n i r ≡ sound → (n ≡ 0) × (r ≡ sound)
+unless-sound zero i r h = (refl, h)
+unless-sound (suc n) i r h = let z : _≡_ {A = ℕ} 0 1 = cc in absurd (omega arith)
+
+-- the first of words that pass does, and those behind it
+first-passes : (s : Before) (i w : ℕ) (ws : List ℕ) → readFrom s i (w ∷ ws) ≡ sound → Passes s w × (readFrom (next s w) (i + 1) ws ≡ sound)
+unfolding readFrom
+first-passes s i w ws h = let f = unless-sound (fault s w) i (readFrom (next s w) (i + 1) ws) h in (passes s w (f .0), f .1)
+
+-- behind another word than the end there are more
+not-ended : (s : Before) (i : ℕ) → eqb (s .kind) endKind ≡ false → readFrom s i [] ≡ sound → ⊥
+unfolding readFrom
+not-ended s i e h = let g = rw e at h in let z : _≡_ {A = ℕ} 0 1 = cc in omega arith
+
+-- behind the end there are none
+ended : (s : Before) (i : ℕ) (ws : List ℕ) → s .kind ≡ endKind → readFrom s i ws ≡ sound → [] ≡ ws
+ended s i [] e h = refl
+ended s i (w ∷ ws) e h = absurd (false≢true (rw e at (first-passes s i w ws h .0 .order)))
+
+-- the words of lifts and the end, perhaps behind a held mark of the lift before
+record Told (s : Before) (ws : List ℕ) : Type 0 where
+  held : Bool
+  mark : held ≡ true → (eqb (s .kind) newKind ≡ true) × (0 < s .old)
+  list : List Lift
+  listed : Listed (s .number) list
+  few : s .lifts + length list ≤ mostLifts
+  back : marked held (written list (word endKind (s .lifts + length list) ∷ [])) ≡ ws
+
+-- behind another word than a new place there is no mark
+unmarked : {s : Before} {ws : List ℕ} (t : Told s ws) → eqb (s .kind) newKind ≡ false → written (t .list) (word endKind (s .lifts + length (t .list)) ∷ []) ≡ ws
+unmarked t e = rw (not-eq-not {b = false} .0 (λ h. true≢false (sym (t .mark h .0) ∙ e))) at (t .back)
+
+-- by the kind of the first word: a lift, the end or a held mark
+by-kind : (s : Before) (i w : ℕ) (ws : List ℕ) → Free (s .kind) → readFrom s i (w ∷ ws) ≡ sound
+    → (kind w ≡ liftKind → s .number < payload w → readFrom (state liftKind (payload w) (s .old) (s .lifts + 1)) (i + 1) ws ≡ sound → Told s (w ∷ ws))
+    → (readFrom (state heldKind (s .number) (s .old) (s .lifts)) (i + 1) ws ≡ sound → Told (state heldKind (s .number) (s .old) (s .lifts)) ws)
+    → Told s (w ∷ ws)
+unfolding written Listed
+by-kind s i w ws o h lift held =
+    let f = first-passes s i w ws h in
+    either _ _ (sym (o (kind w)) ∙ f .0 .order)
+    (λ le. either _ _ le
+    (λ l. let e = eqb-true _ _ l in lift e (f .0 .number e) (rw e at (f .1)))
+    (λ l.
+    let e = eqb-true (kind w) endKind l in
+    let c = f .0 .count e in
+    record { held = false; mark = λ q. absurd (false≢true q); list = []; listed = tt; few = omega arith; back = ap₂ _∷_ (omega arith) (ended _ _ ws e (f .1)) }))
+    (λ m.
+    let k = and-eq-true-iff _ _ .0 m in
+    let e = eqb-true (kind w) heldKind (k .1) in
+    let t = held (rw e at (f .1)) in
+    let z = f .0 .mark e in
+    record { held = true; mark = λ _. (k .0, z .1); list = t .list; listed = t .listed; few = t .few; back = ap₂ _∷_ (omega (arith, z .0)) (unmarked t refl) })
+
+-- and the words of one lift more before them
+lift-told : (s : Before) (w v u : ℕ) (ws : List ℕ) → kind w ≡ liftKind → s .number < payload w → kind v ≡ oldKind → Placed (placeOf v) → kind u ≡ newKind → Placed (placeOf u)
+    → Told (state newKind (payload w) (placeOf v .measure) (s .lifts + 1)) ws → Told s (w ∷ v ∷ u ∷ ws)
+unfolding written Listed
+lift-told s w v u ws a l b old c new t =
+    let e : s .lifts + suc (length (t .list)) ≡ s .lifts + 1 + length (t .list) = omega arith in
+    record {
+      held = false;
+      mark = λ q. absurd (false≢true q);
+      list = record { number = payload w; old = placeOf v; new = placeOf u; held = t .held } ∷ t .list;
+      listed = (record { rises = l; payload = omega arith; old = old; new = new; held = λ q. t .mark q .1 }, t .listed);
+      few = omega (arith, t .few);
+      back = rw e (ap₂ _∷_ (omega arith) (ap₂ _∷_ (omega arith) (ap₂ _∷_ (omega arith) (t .back))));
+    }
+
+-- words that pass are such words
+parse : (s : Before) (i : ℕ) (ws : List ℕ) → Free (s .kind) → readFrom s i ws ≡ sound → Told s ws
+parse s i [] o h = absurd (not-ended s i (ne-eqb (s .kind) endKind (λ e. false≢true (rw e at (o liftKind)))) h)
+parse s i (w ∷ []) o h = by-kind s i w [] o h (λ a l g. absurd (not-ended _ _ refl g)) (parse _ _ [] (λ j. refl))
+parse s i (w ∷ v ∷ []) o h =
+    by-kind s i w (v ∷ []) o h
+    (λ a l g. let f = first-passes _ _ v [] g in let b = eqb-true (kind v) oldKind (f .0 .order) in absurd (not-ended _ _ refl (rw b at (f .1))))
+    (parse _ _ (v ∷ []) (λ j. refl))
+parse s i (w ∷ v ∷ u ∷ ws) o h =
+    by-kind s i w (v ∷ u ∷ ws) o h
+    (λ a l g.
+    let f = first-passes _ _ v (u ∷ ws) g in
+    let b = eqb-true (kind v) oldKind (f .0 .order) in
+    let e = first-passes _ _ u ws (rw b at (f .1)) in
+    let c = eqb-true (kind u) newKind (e .0 .order) in
+    lift-told s w v u ws a l b (f .0 .place (rw b)) c (e .0 .place (rw c)) (parse _ _ ws (λ j. refl) (rw c at (e .1))))
+    (parse _ _ (v ∷ u ∷ ws) (λ j. refl))
+
+-- ---- the words of lifts
+
+pub kind-word : (k p : ℕ) → p < 2 ^ 28 → kind (word k p) ≡ k
+kind-word k p h = omega arith
+
+pub payload-word : (k p : ℕ) → p < 2 ^ 28 → payload (word k p) ≡ p
+payload-word k p h = omega arith
+
+pub kind-place : (k : ℕ) (p : Place) → Placed p → kind (placeWord k p) ≡ k
+kind-place k p h = omega arith
+
+round-place : (k : ℕ) (p : Place) → Placed p → placeOf (placeWord k p) .round ≡ p .round
+round-place k p h = omega arith
+
+measure-place : (k : ℕ) (p : Place) → Placed p → placeOf (placeWord k p) .measure ≡ p .measure
+measure-place k p h = omega arith
+
+not-misplaced : (p : Place) → Placed p → (ltb mostRounds (p .round) || ltb largestSum (p .measure) || eqb (p .round) 0 && not (eqb (p .measure) 0)) ≡ false
+not-misplaced p h = rw (le-ltb mostRounds (p .round) (h .round), le-ltb largestSum (p .measure) (h .measure)) (go (eqb (p .round) 0) refl)
+  where
+    go : (t : Bool) → eqb (p .round) 0 ≡ t → (t && not (eqb (p .measure) 0)) ≡ false
+    go true e = ap not (eq-eqb _ _ (h .nowhere (eqb-true _ _ e)))
+    go false e = refl
+
+-- a held mark passes if what follows does
+mark-passes : (n o c i : ℕ) (ws : List ℕ) (held : Bool) → (held ≡ true → 0 < o) → ((k j : ℕ) → Free k → readFrom (state k n o c) j ws ≡ sound)
+    → readFrom (state newKind n o c) i (marked held ws) ≡ sound
+unfolding readFrom fault
+mark-passes n o c i ws true m r = let l = m refl in rw (ne-eqb o 0 (omega arith)) (r heldKind (i + 1) (λ j. refl))
+mark-passes n o c i ws false m r = r newKind i (λ j. refl)
+
+-- a lift passes if what follows does
+lift-passes : (s : Before) (i : ℕ) (ws : List ℕ) (l : Lift) → Free (s .kind) → Proper (s .number) l
+    → ((k j : ℕ) → Free k → readFrom (state k (l .number) (l .old .measure) (s .lifts + 1)) j ws ≡ sound) → readFrom s i (wordsOf l ++ ws) ≡ sound
+unfolding readFrom fault
+lift-passes s i ws l o p r =
+    rw (kind-word liftKind (l .number) (p .payload), payload-word liftKind (l .number) (p .payload), o liftKind, ne-eqb (l .number) 0 (omega arith), lt-leb (l .number) (s .number) (p .rises))
+    (rw (kind-place oldKind (l .old) (p .old), round-place oldKind (l .old) (p .old), measure-place oldKind (l .old) (p .old), not-misplaced (l .old) (p .old))
+    (rw (kind-place newKind (l .new) (p .new), round-place newKind (l .new) (p .new), measure-place newKind (l .new) (p .new), not-misplaced (l .new) (p .new))
+    (mark-passes _ _ _ _ ws (l .held) (p .held) r)))
+
+-- lifts pass, with an end word that counts them
+lifts-pass : (s : Before) (i e : ℕ) (ls : List Lift) → Free (s .kind) → Listed (s .number) ls → e ≡ s .lifts + length ls → e ≤ mostLifts
+    → readFrom s i (written ls (word endKind e ∷ [])) ≡ sound
+unfolding readFrom fault written Listed
+lifts-pass s i e [] o p c f = rw (kind-word endKind e (omega arith), payload-word endKind e (omega arith), o endKind, eq-eqb e (s .lifts) (omega arith), le-ltb mostLifts e f)
+lifts-pass s i e (l ∷ ls) o p c f = lift-passes s i _ l o (p .0) (λ k j o. lifts-pass _ j e ls o (p .1) (omega arith) f)
+
+-- a held mark is read back, before a word that is none
+mark-back : (held : Bool) (ws : List ℕ) → eqb (kind (getD ws 0 0)) heldKind ≡ false
+    → (eqb (kind (getD (marked held ws) 0 0)) heldKind ≡ held) × (lifts (marked held ws) ≡ lifts ws)
+unfolding lifts
+mark-back true ws h = (refl, refl)
+mark-back false ws h = (h, refl)
+
+-- the words of lifts begin with no held mark, and the lifts are read back
+lifts-back : (n e : ℕ) (ls : List Lift) → e < 2 ^ 28 → Listed n ls
+    → (eqb (kind (getD (written ls (word endKind e ∷ [])) 0 0)) heldKind ≡ false) × (lifts (written ls (word endKind e ∷ [])) ≡ ls)
+unfolding lifts written Listed
+lifts-back n e [] f p = (rw (kind-word endKind e f), rw (kind-word endKind e f))
+lifts-back n e (l ∷ ls) f (p, q) =
+    let r = lifts-back (l .number) e ls f q in
+    let m = mark-back (l .held) (written ls (word endKind e ∷ [])) (r .0) in (
+      rw (kind-word liftKind (l .number) (p .payload)),
+      rw (kind-word liftKind (l .number) (p .payload), kind-place oldKind (l .old) (p .old), kind-place newKind (l .new) (p .new))
+          (rw (payload-word liftKind (l .number) (p .payload), round-place oldKind (l .old) (p .old), measure-place oldKind (l .old) (p .old))
+          (rw (round-place newKind (l .new) (p .new), measure-place newKind (l .new) (p .new), m .0, m .1, r .1))),
+    )
+
+pub written-theorem : WrittenTheorem
+written-theorem ls h =
+    record {
+      sound = lifts-pass start 0 (length ls) ls (λ j. refl) (h .listed) (omega arith) (h .few);
+      back = lifts-back 0 (length ls) ls (omega arith) (h .listed) .1;
+    }
+
+pub read-theorem : ReadTheorem
+read-theorem ws h = rw (← back) (record { back = ap sheetOf again; listable = rw again listable })
+  where
+    t : Told start ws
+    t = parse start 0 ws (λ j. refl) h
+
+    listable : Listable (t .list)
+    listable = record { listed = t .listed; few = omega (arith, t .few) }
+
+    again : lifts (sheetOf (t .list)) ≡ t .list
+    again = written-theorem (t .list) listable .back
+
+    back : sheetOf (t .list) ≡ ws
+    back = rw (zero-add (length (t .list))) at (unmarked t refl)

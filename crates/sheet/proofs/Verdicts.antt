@@ -1,0 +1,161 @@
+-- The answer to a sheet: the tests of the code on tables are the document's on lifts, and one law for each way out.
+use Prim.Native.Nat.{ℕ, _+_, _≤_, _<_}
+use mathlib.Core.Path.{_≡_, refl, ap, ap₂, _∙_}
+use mathlib.Core.Bool.{Bool, true, false, cond, or-true}
+use mathlib.Core.List.{List, [], _∷_, tail}
+use native.Mathlib.Omega.{arith}
+use mathlib.Core.Logic.{_⊎_, inl, inr}
+use lib.Dec.{eqb, leb, ltb}
+use lib.ListN.{length, getD}
+use borrow.Author.Tests.{eq-eqb, ne-eqb, lt-ltb, le-ltb}
+use Rattle.sheet.specs.Sheet.{mostRounds, longest, Lift, lifts}
+use Rattle.sheet.specs.Reading.{Numbered, numbered, Reading, faulty, sound, reading, Legible}
+use Rattle.sheet.specs.Rounds.{rounds, inUse}
+use Rattle.sheet.specs.Refusal.{Verdict, refused, fits, mislong, unheld, oversize, unmeasured, crowded, firstRound, ofRounds, firstWord, verdict}
+use Rattle.sheet.specs.Tables.{table, tallyOf, donorsOf, breaks, first}
+use Rattle.sheet.specs.Law.{DecidedTheorem}
+use Rattle.sheet.specs.declared.Side.{Side}
+use Rattle.sheet.specs.declared.Side.the-variants.{Old, New}
+use Rattle.sheet.specs.declared.Field.the-variants.{Measure, Held, Unit}
+use Rattle.sheet.specs.declared.Rule.the-variants.{Unheld, Oversize, Unmeasured, Crowded}
+use Rattle.sheet.specs.declared.Found.{Found}
+use Rattle.sheet.specs.declared.Found.the-variants.{At, Nothing}
+use Rattle.sheet.proofs.Tables.{getD-tabulate}
+use Rattle.sheet.proofs.Sending.{donors-count}
+use Rattle.sheet.proofs.Searches.{those-ext, those-none, none-those}
+
+-- ---- the tests on tables
+
+-- the rounds that pass a test on two tables' numbers
+tested : (test : ℕ → ℕ → Bool) (f g : ℕ → ℕ) {a b : List ℕ} → a ≡ table f → b ≡ table g
+    → rounds (λ t. test (getD a t 0) (getD b t 0)) ≡ rounds (λ t. test (f t) (g t))
+tested test f g ea eb =
+    those-ext 1 mostRounds
+    (λ t l h. ap₂ test (ap (λ x. getD x t 0) ea ∙ getD-tabulate (mostRounds + 1) f t h) (ap (λ x. getD x t 0) eb ∙ getD-tabulate (mostRounds + 1) g t h))
+
+-- what the code's search finds is the first round that a refusal meets
+module _ (ls : List Lift) {a : List ℕ} where
+  pub found-unheld : {b : List ℕ} {x : Found} → a ≡ tallyOf Old Unit ls → b ≡ tallyOf Old Held ls → x ≡ first (rounds (λ t. breaks Unheld (getD a t 0) (getD b t 0))) → x ≡ first (rounds (unheld ls))
+  found-unheld ea eb e = e ∙ ap first (tested (breaks Unheld) _ _ ea eb)
+
+  pub found-oversize : {x : Found} (side : Side) → a ≡ tallyOf side (Measure side) ls → x ≡ first (rounds (λ t. breaks Oversize (getD a t 0) (getD a t 0)))
+      → x ≡ first (rounds (oversize side ls))
+  found-oversize side ea e = e ∙ ap first (tested (breaks Oversize) _ _ ea ea)
+
+  pub found-unmeasured : {b : List ℕ} {x : Found} → a ≡ tallyOf New Unit ls → b ≡ tallyOf New (Measure New) ls → x ≡ first (rounds (λ t. breaks Unmeasured (getD a t 0) (getD b t 0)))
+      → x ≡ first (rounds (unmeasured ls))
+  found-unmeasured ea eb e = e ∙ ap first (tested (breaks Unmeasured) _ _ ea eb)
+
+  pub in-use : {n : ℕ} → a ≡ tallyOf New Unit ls → n ≡ length (rounds (λ t. ltb 0 (getD a t 0))) → n ≡ length (inUse New ls)
+  in-use ea e = e ∙ ap length (tested (λ x y. ltb 0 x) _ _ ea ea)
+
+pub found-crowded : {ws a b : List ℕ} {x : Found} → Legible ws → a ≡ donorsOf 0 (lifts ws) → b ≡ donorsOf 64 (lifts ws)
+    → x ≡ first (rounds (λ t. breaks Crowded (getD a t 0) (getD b t 0))) → x ≡ first (rounds (crowded (lifts ws)))
+found-crowded {ws} l ea eb e =
+    e ∙ ap first (tested (breaks Crowded) _ _ ea eb ∙ those-ext 1 mostRounds (λ t _ _. ap (leb 3) (donors-count ws l t)))
+
+-- ---- the ways out
+
+empty : (rs : List ℕ) → Nothing ≡ first rs → rs ≡ []
+empty [] e = refl
+empty (r ∷ rs) e = let z : _≡_ {A = ℕ} 0 1 = cc in absurd (omega arith)
+
+heads : {r : ℕ} (rs : List ℕ) → At r ≡ first rs → rs ≡ r ∷ tail rs
+heads [] e = let z : _≡_ {A = ℕ} 0 1 = cc in absurd (omega arith)
+heads (x ∷ rs) e = cc
+
+module _ (ls : List Lift) where
+  pub at-unheld : {r : ℕ} → At r ≡ first (rounds (unheld ls)) → refused (numbered 7 r) ≡ ofRounds ls
+  unfolding ofRounds
+  at-unheld e = rw (heads (rounds (unheld ls)) e)
+
+  module _ (a : Nothing ≡ first (rounds (unheld ls))) where
+    pub at-old : {r : ℕ} → At r ≡ first (rounds (oversize Old ls)) → refused (numbered 8 r) ≡ ofRounds ls
+    unfolding ofRounds
+    at-old e = rw (empty (rounds (unheld ls)) a, heads (rounds (oversize Old ls)) e)
+
+    module _ (b : Nothing ≡ first (rounds (oversize Old ls))) where
+      pub at-new : {r : ℕ} → At r ≡ first (rounds (oversize New ls)) → refused (numbered 8 r) ≡ ofRounds ls
+      unfolding ofRounds
+      at-new e = rw (empty (rounds (unheld ls)) a, empty (rounds (oversize Old ls)) b, heads (rounds (oversize New ls)) e)
+
+      module _ (c : Nothing ≡ first (rounds (oversize New ls))) where
+        pub at-unmeasured : {r : ℕ} → At r ≡ first (rounds (unmeasured ls)) → refused (numbered 9 r) ≡ ofRounds ls
+        unfolding ofRounds
+        at-unmeasured e = rw (empty (rounds (unheld ls)) a, empty (rounds (oversize Old ls)) b, empty (rounds (oversize New ls)) c, heads (rounds (unmeasured ls)) e)
+
+        module _ (d : Nothing ≡ first (rounds (unmeasured ls))) where
+          pub at-crowded : {r : ℕ} → At r ≡ first (rounds (crowded ls)) → refused (numbered 10 r) ≡ ofRounds ls
+          unfolding ofRounds
+          at-crowded e = rw (empty (rounds (unheld ls)) a, empty (rounds (oversize Old ls)) b, empty (rounds (oversize New ls)) c, empty (rounds (unmeasured ls)) d, heads (rounds (crowded ls)) e)
+
+          pub at-last : Nothing ≡ first (rounds (crowded ls)) → fits (length ls) (length (inUse New ls)) ≡ ofRounds ls
+          unfolding ofRounds
+          at-last e = rw (empty (rounds (unheld ls)) a, empty (rounds (oversize Old ls)) b, empty (rounds (oversize New ls)) c, empty (rounds (unmeasured ls)) d, empty (rounds (crowded ls)) e)
+
+module _ (ws : List ℕ) where
+  pub at-length : (length ws ≡ 0) ⊎ (longest < length ws) → refused (numbered 1 (length ws)) ≡ verdict ws
+  unfolding verdict
+  at-length (inl h) = rw (eq-eqb (length ws) 0 h)
+  at-length (inr h) = rw (lt-ltb longest (length ws) h, or-true (eqb (length ws) 0))
+
+  module _ (some : length ws ≡ 0 → ⊥) (few : length ws ≤ longest) where
+    words-first : firstWord (reading ws) (ofRounds (lifts ws)) ≡ verdict ws
+    unfolding verdict
+    words-first = rw (ne-eqb (length ws) 0 some, le-ltb longest (length ws) few)
+
+    pub at-word : {x : Numbered} → faulty x ≡ reading ws → refused x ≡ verdict ws
+    at-word e = ap (λ r. firstWord r (ofRounds (lifts ws))) e ∙ words-first
+
+    pub at-rounds : {v : Verdict} → sound ≡ reading ws → v ≡ ofRounds (lifts ws) → v ≡ verdict ws
+    at-rounds e q = q ∙ ap (λ r. firstWord r (ofRounds (lifts ws))) e ∙ words-first
+
+-- ---- fitting
+
+-- a refusal that is not given meets no round
+passed : (n : ℕ) (rs : List ℕ) (v : Verdict) {a b : ℕ} → firstRound n rs v ≡ fits a b → (rs ≡ []) × (v ≡ fits a b)
+passed n [] v e = (refl, e)
+passed n (r ∷ rs) v e = let z : _≡_ {A = ℕ} 0 1 = cc in absurd (omega arith)
+
+read-through : (r : Reading) (v : Verdict) {a b : ℕ} → firstWord r v ≡ fits a b → (r ≡ sound) × (v ≡ fits a b)
+read-through sound v e = (refl, e)
+read-through (faulty x) v e = let z : _≡_ {A = ℕ} 0 1 = cc in absurd (omega arith)
+
+well-long : (t : Bool) (x : Numbered) (v : Verdict) {a b : ℕ} → cond t (refused x) v ≡ fits a b → (t ≡ false) × (v ≡ fits a b)
+well-long true x v e = let z : _≡_ {A = ℕ} 0 1 = cc in absurd (omega arith)
+well-long false x v e = (refl, e)
+
+pub decided : DecidedTheorem
+unfolding verdict ofRounds
+decided ws =
+    record {
+      passes = λ f.
+          rw (f .length, f .words)
+          (rw (clear (unheld ls) (f .held), clear (oversize Old ls) (f .old), clear (oversize New ls) (f .new), clear (unmeasured ls) (f .sums), clear (crowded ls) (f .donors)));
+      only = λ n k e.
+          let l = well-long (mislong ws) _ (firstWord (reading ws) (ofRounds ls)) e in
+          let w = read-through (reading ws) (ofRounds ls) (l .1) in
+          let a = passed 7 (rounds (unheld ls)) _ (w .1) in
+          let b = passed 8 (rounds (oversize Old ls)) _ (a .1) in
+          let c = passed 8 (rounds (oversize New ls)) _ (b .1) in
+          let d = passed 9 (rounds (unmeasured ls)) _ (c .1) in
+          let g = passed 10 (rounds (crowded ls)) _ (d .1) in
+          record {
+            length = l .0;
+            words = w .0;
+            held = none (unheld ls) (a .0);
+            old = none (oversize Old ls) (b .0);
+            new = none (oversize New ls) (c .0);
+            sums = none (unmeasured ls) (d .0);
+            donors = none (crowded ls) (g .0);
+          };
+    }
+  where
+    ls : List Lift
+    ls = lifts ws
+
+    clear : (p : ℕ → Bool) → ((r : ℕ) → 1 ≤ r → r ≤ mostRounds → p r ≡ false) → rounds p ≡ []
+    clear p h = those-none p 1 mostRounds (λ t l m. h t l (omega arith))
+
+    none : (p : ℕ → Bool) → rounds p ≡ [] → (r : ℕ) → 1 ≤ r → r ≤ mostRounds → p r ≡ false
+    none p e r l m = none-those p 1 mostRounds e r l (omega arith)

@@ -1,0 +1,171 @@
+-- Walks over the lifts of a legible sheet, position by position: what is left of the words is the words of the lifts left.
+use Prim.Native.Nat.{ℕ, _+_, _-_, _≤_, _<_}
+use mathlib.Core.Path.{_≡_, refl, sym, ap, subst, _∙_}
+use mathlib.Core.Bool.{Bool, true, false, cond}
+use mathlib.Core.List.{List, [], _∷_, _++_}
+use lib.Dec.{eqb}
+use native.Mathlib.Omega.{arith}
+use lib.ListN.{length, getD, drop, length-append, length-drop}
+use lib.Seq.{drop-drop, getD-append-add}
+use Rattle.laws.specs.Sum.{indicator}
+use Rattle.sheet.specs.Sheet.{mostRounds, kind, payload, liftKind, oldKind, newKind, heldKind, endKind, Lift, liftOf, lifts, word, placeWord, wordsOf, written}
+use Rattle.sheet.specs.Reading.{Legible}
+use Rattle.sheet.specs.Rounds.{placeAt}
+use Rattle.sheet.specs.Law.{Placed, Proper, Listed}
+use Rattle.sheet.specs.declared.Side.{Side}
+use Rattle.sheet.specs.declared.Side.the-variants.{Old, New}
+use Rattle.sheet.proofs.Trips.{kind-word, payload-word, kind-place, read-theorem}
+
+-- the words of the end of a sheet of n lifts
+abbrev end : ℕ → List ℕ
+end n = word endKind n ∷ []
+
+-- position i stands between lifts
+pub record Between (ws : List ℕ) (i : ℕ) : Type 0 where
+  pub before : ℕ
+  pub listed : Listed before (lifts (drop i ws))
+  pub back : written (lifts (drop i ws)) (end (length (lifts ws))) ≡ drop i ws
+
+pub between-none : {ws : List ℕ} → Legible ws → Between ws 0
+between-none {ws} l =
+    let r = read-theorem ws (l .read) in
+    record { before = 0; listed = r .listable .listed; back = r .back }
+
+-- where the lift at position i ends
+abbrev pub behind : List ℕ → ℕ → ℕ
+behind ws i = i + (3 + indicator (liftOf (drop i ws) .held))
+
+-- what holds at a lift
+pub record Turn (ws : List ℕ) (i : ℕ) : Type 0 where
+  pub room : i + 3 < length ws
+  pub old : Placed (liftOf (drop i ws) .old)
+  pub new : Placed (liftOf (drop i ws) .new)
+  pub here : lifts (drop i ws) ≡ liftOf (drop i ws) ∷ lifts (drop (behind ws i) ws)
+  pub next : Between ws (behind ws i)
+
+-- a round's number is an index of a table by round
+pub round-lt : {ws : List ℕ} {i k : ℕ} (side : Side) → Turn ws i → k ≡ placeAt side (liftOf (drop i ws)) .round → k < mostRounds + 1
+round-lt Old t e = omega (arith, t .old .round)
+round-lt New t e = omega (arith, t .new .round)
+
+flag-le : (t : Bool) → indicator t ≤ 1
+flag-le true = omega arith
+flag-le false = omega arith
+
+-- a turn moves on, and not beyond the words
+pub moved : {ws : List ℕ} {i m : ℕ} → Turn ws i → m ≡ indicator (liftOf (drop i ws) .held) → i + (3 + m) ≤ length ws
+moved {ws} {i} t e = omega (arith, t .room, flag-le (liftOf (drop i ws) .held))
+
+-- a word of kind 1 is read as a lift, another is passed over
+lifts-lift : (w : ℕ) → kind w ≡ liftKind → (ws : List ℕ) → lifts (w ∷ ws) ≡ liftOf (w ∷ ws) ∷ lifts ws
+unfolding lifts
+lifts-lift w e ws = ap (λ k. cond (eqb k liftKind) (liftOf (w ∷ ws) ∷ lifts ws) (lifts ws)) e
+
+lifts-other : (w : ℕ) {k : ℕ} → kind w ≡ k → eqb k liftKind ≡ false → (ws : List ℕ) → lifts (w ∷ ws) ≡ lifts ws
+unfolding lifts
+lifts-other w e h ws = ap (λ t. cond t (liftOf (w ∷ ws) ∷ lifts ws) (lifts ws)) (ap (λ k. eqb k liftKind) e ∙ h)
+
+-- a lift's words are read as one lift, and passed over as one
+lifts-one : {n : ℕ} (l : Lift) → Proper n l → (ws : List ℕ) → lifts (wordsOf l ++ ws) ≡ liftOf (wordsOf l ++ ws) ∷ lifts ws
+lifts-one l p ws =
+    lifts-lift _ (kind-word liftKind (l .number) (p .payload)) _
+    ∙ ap (λ ls. liftOf (wordsOf l ++ ws) ∷ ls)
+    (lifts-other _ (kind-place oldKind (l .old) (p .old)) refl _ ∙ lifts-other _ (kind-place newKind (l .new) (p .new)) refl _ ∙ mark (l .held))
+  where
+    mark : (t : Bool) → lifts (cond t (word heldKind 0 ∷ []) [] ++ ws) ≡ lifts ws
+    mark true = lifts-other (word heldKind 0) refl refl ws
+    mark false = refl
+
+drop-one : (l : Lift) (ws : List ℕ) → drop (3 + indicator (l .held)) (wordsOf l ++ ws) ≡ ws
+drop-one l ws = go (l .held)
+  where
+    go : (t : Bool)
+        → drop (3 + indicator t) (word liftKind (l .number) ∷ placeWord oldKind (l .old) ∷ placeWord newKind (l .new) ∷ cond t (word heldKind 0 ∷ []) [] ++ ws) ≡ ws
+    go true = refl
+    go false = refl
+
+-- a sheet's words reach behind the last lift
+written-long : (ls : List Lift) (n : ℕ) → 0 < length (written ls (end n))
+unfolding written
+written-long [] n = omega arith
+written-long (l ∷ ls) n = omega arith
+
+long : (t : Bool) (ws : List ℕ) → length ws ≤ length (cond t (word heldKind 0 ∷ []) [] ++ ws)
+long true ws = omega arith
+long false ws = omega arith
+
+module _ {ws : List ℕ} {i : ℕ} (b : Between ws i) where
+  -- the words left, where the lifts left are known
+  left : (ls : List Lift) → lifts (drop i ws) ≡ ls → drop i ws ≡ written ls (end (length (lifts ws)))
+  left ls e = rw (← e) (sym (b .back))
+
+  left-none : lifts (drop i ws) ≡ [] → length ws - i ≡ 1
+  unfolding written
+  left-none e = sym (length-drop i ws) ∙ ap length (left [] e)
+
+  left-some : (l : Lift) (ls : List Lift) → lifts (drop i ws) ≡ l ∷ ls → 3 < length ws - i
+  unfolding written
+  left-some l ls e =
+      omega (arith, length-drop i ws, ap length (left (l ∷ ls) e), long (l .held) (written ls (end (length (lifts ws)))), written-long ls (length (lifts ws)))
+
+  turn-of : (l : Lift) (ls : List Lift) → lifts (drop i ws) ≡ l ∷ ls → Turn ws i
+  unfolding written Listed
+  turn-of l ls e =
+      let p : Proper (b .before) l = (rw e at (b .listed)) .0 in
+      let rest : List ℕ = written ls (end (length (lifts ws))) in
+      let q : drop i ws ≡ wordsOf l ++ rest = left (l ∷ ls) e in
+      let o : lifts (drop i ws) ≡ liftOf (drop i ws) ∷ lifts rest = rw q (lifts-one l p rest) in
+      let s : liftOf (drop i ws) ≡ l = cc in
+      let t : lifts rest ≡ ls = cc in
+      let d : drop (behind ws i) ws ≡ rest =
+      ap (λ t. drop (i + (3 + indicator t)) ws) (ap (λ x. x .held) s) ∙ rw (← drop-drop (3 + indicator (l .held)) i ws, q) (drop-one l rest) in
+      record {
+        room = omega (arith, left-some l ls e);
+        old = subst Placed (sym (ap (λ x. x .old) s)) (p .old);
+        new = subst Placed (sym (ap (λ x. x .new) s)) (p .new);
+        here = rw d o;
+        next = record { before = l .number; listed = rw (d, t) ((rw e at (b .listed)) .1); back = rw (d, t) refl };
+      }
+
+  -- where more than the end word is left there is a lift
+  pub turn : i + 1 < length ws → Turn ws i
+  turn h = go (lifts (drop i ws)) refl
+    where
+      go : (ls : List Lift) → lifts (drop i ws) ≡ ls → Turn ws i
+      go [] e = absurd (omega (arith, left-none e))
+      go (l ∷ ls) e = turn-of l ls e
+
+  -- and where no more is left there is none
+  pub last : length ws ≤ i + 1 → lifts (drop i ws) ≡ []
+  last h = go (lifts (drop i ws)) refl
+    where
+      go : (ls : List Lift) → lifts (drop i ws) ≡ ls → ls ≡ []
+      go [] e = refl
+      go (l ∷ ls) e = absurd (omega (arith, left-some l ls e))
+
+  -- the end word is never passed
+  pub inside : i < length ws
+  inside = go (lifts (drop i ws)) refl
+    where
+      go : (ls : List Lift) → lifts (drop i ws) ≡ ls → i < length ws
+      go [] e = omega (arith, left-none e)
+      go (l ∷ ls) e = omega (arith, left-some l ls e)
+
+-- ---- the end word
+
+getD-last : (xs ys : List ℕ) → 0 < length ys → getD (xs ++ ys) (length (xs ++ ys) - 1) 0 ≡ getD ys (length ys - 1) 0
+getD-last xs ys h =
+    let e : length (xs ++ ys) - 1 ≡ length xs + (length ys - 1) = omega (arith, length-append xs ys) in
+    rw e (getD-append-add xs ys (length ys - 1) 0)
+
+written-last : (ls : List Lift) (n : ℕ) → getD (written ls (end n)) (length (written ls (end n)) - 1) 0 ≡ word endKind n
+unfolding written
+written-last [] n = refl
+written-last (l ∷ ls) n = getD-last (wordsOf l) (written ls (end n)) (written-long ls n) ∙ written-last ls n
+
+-- the end word counts the lifts
+pub end-counts : {ws : List ℕ} → Legible ws → payload (getD ws (length ws - 1) 0) ≡ length (lifts ws)
+end-counts {ws} l =
+    let r = read-theorem ws (l .read) in
+    let n = length (lifts ws) in
+    ap (λ us. payload (getD us (length us - 1) 0)) (sym (r .back)) ∙ ap payload (written-last (lifts ws) n) ∙ payload-word endKind n (omega (arith, r .listable .few))

@@ -1,0 +1,13 @@
+-- `sheet::some` meets its contract: the test is that of the definition. Assumes nothing.
+use Rattle.sheet.proofs.Cases.{cases}
+use Rattle.sheet.proofs.some.Statement.{statement}
+use Rattle.sheet.proofs.some.Tie as tie
+
+returns : tie.Need-returns
+returns c = search cases
+
+returns-2 : tie.Need-returns-2
+returns-2 c = search cases
+
+pub some-spec : {M : Type 1} → statement M
+some-spec = tie.close (tie.spec returns returns-2)

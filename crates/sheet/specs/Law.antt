@@ -1,0 +1,73 @@
+-- What is proved of sheets and of lists of lifts: reading and writing are inverse, and a sheet fits when no refusal applies.
+use Prim.Native.Nat.{ℕ, _^_, _≤_, _<_}
+use mathlib.Core.Path.{_≡_}
+use mathlib.Core.Bool.{true, false}
+use mathlib.Core.List.{List, [], _∷_}
+use lib.ListN.{length}
+use Rattle.sheet.specs.Sheet.{mostLifts, mostRounds, largestSum, Place, Lift, lifts, sheetOf}
+use Rattle.sheet.specs.Reading.{reading, sound}
+use Rattle.sheet.specs.Rounds.{inUse}
+use Rattle.sheet.specs.Refusal.{fits, mislong, unheld, oversize, unmeasured, crowded, verdict}
+use Rattle.sheet.specs.declared.Side.the-variants.{Old, New}
+
+-- ---- reading and writing
+
+-- a place that a sheet can tell
+pub record Placed (p : Place) : Type 0 where
+  pub round : p .round ≤ mostRounds
+  pub measure : p .measure ≤ largestSum
+  pub nowhere : p .round ≡ 0 → p .measure ≡ 0
+
+-- a lift that a sheet can tell behind one of number n
+pub record Proper (n : ℕ) (l : Lift) : Type 0 where
+  pub rises : n < l .number
+  pub payload : l .number < 2 ^ 28
+  pub old : Placed (l .old)
+  pub new : Placed (l .new)
+  pub held : l .held ≡ true → 0 < l .old .measure
+
+-- lifts that a sheet can tell behind one of number n: "Lift numbers rise."
+unfoldable pub Listed : ℕ → List Lift → Type 0
+Listed n [] = Unit {0}
+Listed n (l ∷ ls) = Proper n l × Listed (l .number) ls
+
+-- lifts that a sheet can tell
+pub record Listable (ls : List Lift) : Type 0 where
+  pub listed : Listed 0 ls
+  pub few : length ls ≤ mostLifts
+
+-- a sheet without a faulty word is the words of its own lifts
+pub record Read (ws : List ℕ) : Type 0 where
+  pub back : sheetOf (lifts ws) ≡ ws
+  pub listable : Listable (lifts ws)
+
+abbrev pub ReadTheorem : Type 0
+ReadTheorem = (ws : List ℕ) → reading ws ≡ sound → Read ws
+
+-- the words of such lifts have no fault, and reading them gives the lifts
+pub record Written (ls : List Lift) : Type 0 where
+  pub sound : reading (sheetOf ls) ≡ sound
+  pub back : lifts (sheetOf ls) ≡ ls
+
+abbrev pub WrittenTheorem : Type 0
+WrittenTheorem = (ls : List Lift) → Listable ls → Written ls
+
+-- ---- fitting
+
+-- a sheet fits when none of the refusals applies
+pub record Fitting (ws : List ℕ) : Type 0 where
+  pub length : mislong ws ≡ false
+  pub words : reading ws ≡ sound
+  pub held : (r : ℕ) → 1 ≤ r → r ≤ mostRounds → unheld (lifts ws) r ≡ false
+  pub old : (r : ℕ) → 1 ≤ r → r ≤ mostRounds → oversize Old (lifts ws) r ≡ false
+  pub new : (r : ℕ) → 1 ≤ r → r ≤ mostRounds → oversize New (lifts ws) r ≡ false
+  pub sums : (r : ℕ) → 1 ≤ r → r ≤ mostRounds → unmeasured (lifts ws) r ≡ false
+  pub donors : (r : ℕ) → 1 ≤ r → r ≤ mostRounds → crowded (lifts ws) r ≡ false
+
+-- exactly the sheets that fit are not refused
+pub record Decided (ws : List ℕ) : Type 0 where
+  pub passes : Fitting ws → verdict ws ≡ fits (length (lifts ws)) (length (inUse New (lifts ws)))
+  pub only : (n k : ℕ) → verdict ws ≡ fits n k → Fitting ws
+
+abbrev pub DecidedTheorem : Type 0
+DecidedTheorem = (ws : List ℕ) → Decided ws

@@ -1,0 +1,6 @@
+pub mod Sheet
+pub mod Reading
+pub mod Rounds
+pub mod Refusal
+pub mod Tables
+pub mod Law

@@ -1,0 +1,93 @@
+-- The words of a sheet one by one: refusals 2 to 6 of document 01, "the first faulty word deciding, 2 before the others".
+use Prim.Native.Nat.{ℕ, zero, suc, _+_, _≤_}
+use mathlib.Core.Path.{_≡_}
+use mathlib.Core.Bool.{Bool, false, cond, not, _&&_, _||_}
+use mathlib.Core.List.{List, [], _∷_}
+use lib.ListN.{length}
+use lib.Dec.{eqb, leb, ltb}
+use Rattle.sheet.specs.Sheet.{mostLifts, mostRounds, largestSum, longest, kind, payload, liftKind, oldKind, newKind, heldKind, endKind, placeOf}
+use Rattle.sheet.specs.declared.Before.{Before}
+
+-- what the words before the first one tell: no kind, no lift
+abbrev pub start : Before
+start = record { kind = 0; number = 0; old = 0; lifts = 0 }
+
+-- what a word adds: its kind, a lift's number, a lift's old measure, one lift more
+abbrev pub next : Before → ℕ → Before
+next s w =
+    record {
+      kind = kind w;
+      number = cond (eqb (kind w) liftKind) (payload w) (s .number);
+      old = cond (eqb (kind w) oldKind) (placeOf w .measure) (s .old);
+      lifts = cond (eqb (kind w) liftKind) (s .lifts + 1) (s .lifts);
+    }
+
+-- which kind may follow which: "For each lift: kinds 1, 2, 3, then 4 if held. After the last lift: one end word and nothing more."
+abbrev pub follows : ℕ → ℕ → Bool
+follows before k =
+    cond (eqb before liftKind) (eqb k oldKind)
+    (cond (eqb before oldKind) (eqb k newKind)
+    (cond (eqb before endKind) false
+    (eqb k liftKind || eqb k endKind || eqb before newKind && eqb k heldKind)))
+
+-- ---- the refusals of a word
+
+-- "2. A kind out of sequence, a word after the end"
+abbrev pub outOfSequence : Before → ℕ → Bool
+outOfSequence s w = not (follows (s .kind) (kind w))
+
+-- "3. Lift number 0 or not above the one before."
+abbrev pub misnumbered : Before → ℕ → Bool
+misnumbered s w = eqb (kind w) liftKind && (eqb (payload w) 0 || leb (payload w) (s .number))
+
+-- "4. Round above 100, measure above 1,048,576, or round 0 with a measure other than 0."
+abbrev pub misplaced : ℕ → Bool
+misplaced w =
+    (eqb (kind w) oldKind || eqb (kind w) newKind)
+    && (ltb mostRounds (placeOf w .round) || ltb largestSum (placeOf w .measure) || eqb (placeOf w .round) 0 && not (eqb (placeOf w .measure) 0))
+
+-- "5. End count not the number of lifts, or above 4,096."
+abbrev pub miscounted : Before → ℕ → Bool
+miscounted s w = eqb (kind w) endKind && (not (eqb (payload w) (s .lifts)) || ltb mostLifts (payload w))
+
+-- "6. A held word with payload other than 0, or whose lift has old measure 0."
+abbrev pub mismarked : Before → ℕ → Bool
+mismarked s w = eqb (kind w) heldKind && (not (eqb (payload w) 0) || eqb (s .old) 0)
+
+-- the number of the first refusal that applies to a word, 0 if none does
+unfoldable pub fault : Before → ℕ → ℕ
+fault s w =
+    cond (outOfSequence s w) 2 (cond (misnumbered s w) 3 (cond (misplaced w) 4 (cond (miscounted s w) 5 (cond (mismarked s w) 6 0))))
+
+-- ---- the first faulty word
+
+-- a refusal by the document's number and its place
+pub record Numbered : Type 0 where
+  pub number : ℕ
+  pub place : ℕ
+
+abbrev pub numbered : ℕ → ℕ → Numbered
+numbered n i = record { number = n; place = i }
+
+-- the refusal of the first faulty word, or that none is faulty
+pub data Reading : Type 0 where
+  faulty : Numbered → Reading
+  sound : Reading
+
+-- at word i: a fault ends the reading, else it goes on
+abbrev pub unless : ℕ → ℕ → Reading → Reading
+unless zero i rest = rest
+unless (suc n) i rest = faulty (numbered (suc n) i)
+
+-- the reading of the words from position i on; "or no end (place: the length)"
+unfoldable pub readFrom : Before → ℕ → List ℕ → Reading
+readFrom s i [] = cond (eqb (s .kind) endKind) sound (faulty (numbered 2 i))
+readFrom s i (w ∷ ws) = unless (fault s w) i (readFrom (next s w) (i + 1) ws)
+
+abbrev pub reading : List ℕ → Reading
+reading ws = readFrom start 0 ws
+
+-- none of the refusals 1 to 6 applies: the words are not too many, and none is faulty (so there is one)
+pub record Legible (ws : List ℕ) : Type 0 where
+  pub short : length ws ≤ longest
+  pub read : reading ws ≡ sound

@@ -1,0 +1,95 @@
+-- "Refused because of the sheet" of document 01.
+use Prim.Native.Nat.{ℕ}
+use mathlib.Core.Bool.{Bool, cond, not, _&&_, _||_}
+use mathlib.Core.List.{List, [], _∷_}
+use lib.ListN.{length}
+use lib.Dec.{eqb, leb, ltb}
+use Rattle.sheet.specs.Sheet.{longest, largestSum, Lift, lifts}
+use Rattle.sheet.specs.Reading.{Numbered, numbered, Reading, faulty, sound, reading}
+use Rattle.sheet.specs.Rounds.{rounds, named, inUse, sumOf, heldIn, donors}
+use Rattle.sheet.specs.declared.Side.{Side}
+use Rattle.sheet.specs.declared.Side.the-variants.{Old, New}
+use Rattle.sheet.specs.declared.Refusal.{Refusal}
+use Rattle.sheet.specs.declared.Refusal.the-variants.{Length, Sequence, Number, Place, Count, Mark, Held, Sum, Empty, Donors}
+use Rattle.sheet.specs.declared.Judged.{Judged}
+use Rattle.sheet.specs.declared.Judged.the-variants.{Faulty, Sound}
+use Rattle.sheet.specs.declared.Checked.{Checked}
+use Rattle.sheet.specs.declared.Checked.the-variants.{Refused, Fits}
+
+-- what is said of a sheet: a refusal's number and place, or that it fits, with how many lifts and new rounds it has
+pub data Verdict : Type 0 where
+  refused : Numbered → Verdict
+  fits : (lifts rounds : ℕ) → Verdict
+
+-- ---- the refusals; 2 to 6 are those of a word, in Reading.antt
+
+-- "1. Length 0 or above 12,389 words."
+abbrev pub mislong : List ℕ → Bool
+mislong ws = eqb (length ws) 0 || ltb longest (length ws)
+
+-- "7. An old round from 1 up, named by any lift, without exactly one held lift."
+abbrev pub unheld : List Lift → ℕ → Bool
+unheld ls r = ltb 0 (named Old r ls) && not (eqb (heldIn r ls) 1)
+
+-- "8. A sum above 1,048,576"
+abbrev pub oversize : Side → List Lift → ℕ → Bool
+oversize side ls r = ltb largestSum (sumOf side r ls)
+
+-- "9. A new round whose sum is 0."
+abbrev pub unmeasured : List Lift → ℕ → Bool
+unmeasured ls r = ltb 0 (named New r ls) && eqb (sumOf New r ls) 0
+
+-- "10. A new round with three donors or more; the different old rounds that send it measure are counted."
+abbrev pub crowded : List Lift → ℕ → Bool
+crowded ls r = leb 3 (length (donors r ls))
+
+-- ---- their order
+
+-- a refusal of the first of the rounds that it meets, if it meets any, else what follows
+abbrev pub firstRound : ℕ → List ℕ → Verdict → Verdict
+firstRound n [] v = v
+firstRound n (r ∷ rs) v = refused (numbered n r)
+
+-- "then 7, 8, 9, 10, each over all rounds rising before the next"; of 8, "old rounds tried first"
+unfoldable pub ofRounds : List Lift → Verdict
+ofRounds ls =
+    firstRound 7 (rounds (unheld ls))
+    (firstRound 8 (rounds (oversize Old ls))
+    (firstRound 8 (rounds (oversize New ls))
+    (firstRound 9 (rounds (unmeasured ls))
+    (firstRound 10 (rounds (crowded ls))
+    (fits (length ls) (length (inUse New ls)))))))
+
+-- a faulty word's refusal, else what follows
+abbrev pub firstWord : Reading → Verdict → Verdict
+firstWord (faulty x) v = refused x
+firstWord sound v = v
+
+-- "Order: 1; then the words one by one, the first faulty word deciding"; of 1, "Place: the length."
+unfoldable pub verdict : List ℕ → Verdict
+verdict ws = cond (mislong ws) (refused (numbered 1 (length ws))) (firstWord (reading ws) (ofRounds (lifts ws)))
+
+-- ---- the code's answer
+
+-- the document's number and place of each case
+abbrev pub refusal : Refusal → Numbered
+refusal (Length n) = numbered 1 n
+refusal (Sequence i) = numbered 2 i
+refusal (Number i) = numbered 3 i
+refusal (Place i) = numbered 4 i
+refusal (Count i) = numbered 5 i
+refusal (Mark i) = numbered 6 i
+refusal (Held r) = numbered 7 r
+refusal (Sum r) = numbered 8 r
+refusal (Empty r) = numbered 9 r
+refusal (Donors r) = numbered 10 r
+
+-- what the answer to a sheet says
+abbrev pub told : Checked → Verdict
+told (Refused x) = refused (refusal x)
+told (Fits s) = fits (s .lifts) (s .rounds)
+
+-- what the answer to words alone says
+abbrev pub toldOfWords : Judged → Reading
+toldOfWords (Faulty x) = faulty (refusal x)
+toldOfWords Sound = sound

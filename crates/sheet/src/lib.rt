@@ -1,0 +1,571 @@
+// The sheet: its words read, checked and refused ("The sheet" and "Refused because of the sheet" of document 01), and what a
+// legible sheet tells of its lifts and rounds.
+ghost use mathlib.Core.Path.{_≡_};
+ghost use mathlib.Core.Bool.{_&&_, _||_};
+ghost use Prim.Native.Nat.{_+_, _≤_, _<_};
+ghost use lib.Dec.{ltb};
+ghost use lib.ListN.{length, getD, drop};
+ghost use Rattle.laws.specs.Sum.{indicator};
+ghost use Rattle.sheet.specs.Sheet.{longest, kind as kindOf, payload as payloadOf, placeOf, liftOf, lifts};
+ghost use Rattle.sheet.specs.Reading.{next as nextOf, follows as followsOf, misnumbered as misnumberedOf, misplaced as misplacedOf, miscounted as miscountedOf, mismarked as mismarkedOf, fault, unless, sound, reading, Legible};
+ghost use Rattle.sheet.specs.Rounds.{rounds, placeAt, inUse};
+ghost use Rattle.sheet.specs.Refusal.{unheld, oversize, unmeasured, crowded, ofRounds, verdict, refusal, told, toldOfWords};
+ghost use Rattle.sheet.specs.Tables.{table, fieldOf, tallyOf, donorsOf, bitOf, below, ByRound, breaks as breaksOf, first as firstOf};
+
+// A sheet that fits: how many lifts and how many new rounds it has.
+pub struct Sheet {
+    pub lifts: usize,
+    pub rounds: usize,
+}
+
+impl Sheet {
+    pub const MOST_LIFTS: usize = 4096;
+
+    pub const MOST_ROUNDS: usize = 100;
+
+    pub const LARGEST_SUM: u64 = 1048576;
+    // Three words for each lift, a held word for each old round, and the end word.
+    pub const LONGEST: usize = 3 * Self::MOST_LIFTS + Self::MOST_ROUNDS + 1;
+    // How many numbers a table by round has: rounds from 0 up.
+    pub const TABLE: usize = Self::MOST_ROUNDS + 1;
+
+    const LIFT: u32 = 1;
+
+    const OLD: u32 = 2;
+
+    const NEW: u32 = 3;
+
+    const HELD: u32 = 4;
+
+    const END: u32 = 15;
+
+    // A word's kind.
+    pub fn kind(word: u32) -> u32
+        ensures { λ r. ⌜ r ≡ kindOf word ⌝ }
+    {
+        word / 0x1000_0000
+    }
+
+    // A word's payload.
+    pub fn payload(word: u32) -> u32
+        ensures { λ r. ⌜ r ≡ payloadOf word ⌝ }
+    {
+        word % 0x1000_0000
+    }
+
+    // The round of a place.
+    pub fn round(word: u32) -> usize
+        ensures { λ r. ⌜ r ≡ placeOf word .round ⌝ }
+    {
+        (word % 0x1000_0000 / 0x20_0000) as usize
+    }
+
+    // The measure of a place.
+    pub fn measure(word: u32) -> u64
+        ensures { λ r. ⌜ r ≡ placeOf word .measure ⌝ }
+    {
+        (word % 0x1000_0000 % 0x20_0000) as u64
+    }
+}
+
+// Why a sheet is refused, with its length, the position of a word, or a round.
+pub enum Refusal {
+    Length(usize),
+    Sequence(usize),
+    Number(usize),
+    Place(usize),
+    Count(usize),
+    Mark(usize),
+    Held(usize),
+    Sum(usize),
+    Empty(usize),
+    Donors(usize),
+}
+
+impl Refusal {
+    // The document's number.
+    pub fn number(self) -> u32
+        ensures { λ r. ⌜ r ≡ refusal self .number ⌝ }
+    {
+        match self {
+            Refusal::Length(_) => 1,
+            Refusal::Sequence(_) => 2,
+            Refusal::Number(_) => 3,
+            Refusal::Place(_) => 4,
+            Refusal::Count(_) => 5,
+            Refusal::Mark(_) => 6,
+            Refusal::Held(_) => 7,
+            Refusal::Sum(_) => 8,
+            Refusal::Empty(_) => 9,
+            Refusal::Donors(_) => 10,
+        }
+    }
+
+    // The place that the document gives with it.
+    pub fn place(self) -> usize
+        ensures { λ r. ⌜ r ≡ refusal self .place ⌝ }
+    {
+        match self {
+            Refusal::Length(n) => n,
+            Refusal::Sequence(i) => i,
+            Refusal::Number(i) => i,
+            Refusal::Place(i) => i,
+            Refusal::Count(i) => i,
+            Refusal::Mark(i) => i,
+            Refusal::Held(r) => r,
+            Refusal::Sum(r) => r,
+            Refusal::Empty(r) => r,
+            Refusal::Donors(r) => r,
+        }
+    }
+}
+
+// The answer to a sheet.
+pub enum Checked {
+    Refused(Refusal),
+    Fits(Sheet),
+}
+
+// The answer to words alone.
+enum Judged {
+    Faulty(Refusal),
+    Sound,
+}
+
+// The old or the new place of a lift.
+pub enum Side {
+    Old,
+    New,
+}
+
+// What is told of a lift; `Held` is 1 for a held lift, else 0, and `Unit` is 1 for every lift.
+pub enum Field {
+    Number,
+    Round(Side),
+    Measure(Side),
+    Held,
+    Unit,
+}
+
+// The refusals of a round, each from two numbers: how many lifts and how many held, the sum, how many lifts and the sum, the
+// two words of donors.
+enum Rule {
+    Unheld,
+    Oversize,
+    Unmeasured,
+    Crowded,
+}
+
+// A round that is looked for.
+enum Found {
+    At(usize),
+    Nothing,
+}
+
+// What the words before a word tell: the last one's kind, 0 before the first, the last lift's number and old measure, and how
+// many lifts there are.
+struct Before {
+    kind: u32,
+    number: u32,
+    old: u64,
+    lifts: usize,
+}
+
+// ---- the words one by one
+
+// Whether a kind may follow another.
+fn follows(before: u32, kind: u32) -> bool
+    ensures { λ r. ⌜ r ≡ followsOf before kind ⌝ }
+{
+    if before == Sheet::LIFT {
+        return kind == Sheet::OLD;
+    }
+    if before == Sheet::OLD {
+        return kind == Sheet::NEW;
+    }
+    if before == Sheet::END {
+        return false;
+    }
+    kind == Sheet::LIFT || kind == Sheet::END || before == Sheet::NEW && kind == Sheet::HELD
+}
+
+// Whether refusal 3 applies to a word.
+fn misnumbered(s: Before, word: u32) -> bool
+    ensures { λ r. ⌜ r ≡ misnumberedOf s word ⌝ }
+{
+    let payload = Sheet::payload(word);
+    Sheet::kind(word) == Sheet::LIFT && (payload == 0 || payload <= s.number)
+}
+
+// Whether refusal 4 applies to a word.
+fn misplaced(word: u32) -> bool
+    ensures { λ r. ⌜ r ≡ misplacedOf word ⌝ }
+{
+    let kind = Sheet::kind(word);
+    let round = Sheet::round(word);
+    let measure = Sheet::measure(word);
+    (kind == Sheet::OLD || kind == Sheet::NEW)
+        && (round > Sheet::MOST_ROUNDS
+            || measure > Sheet::LARGEST_SUM
+            || round == 0 && measure != 0)
+}
+
+// Whether refusal 5 applies to a word.
+fn miscounted(s: Before, word: u32) -> bool
+    ensures { λ r. ⌜ r ≡ miscountedOf s word ⌝ }
+{
+    let payload = Sheet::payload(word) as usize;
+    Sheet::kind(word) == Sheet::END && (payload != s.lifts || payload > Sheet::MOST_LIFTS)
+}
+
+// Whether refusal 6 applies to a word.
+fn mismarked(s: Before, word: u32) -> bool
+    ensures { λ r. ⌜ r ≡ mismarkedOf s word ⌝ }
+{
+    Sheet::kind(word) == Sheet::HELD && (Sheet::payload(word) != 0 || s.old == 0)
+}
+
+// The refusal that a word at position i meets.
+fn judge(s: Before, word: u32, i: usize) -> Judged
+    ensures { λ r. ⌜ toldOfWords r ≡ unless (fault s word) i sound ⌝ }
+{
+    if !follows(s.kind, Sheet::kind(word)) {
+        return Judged::Faulty(Refusal::Sequence(i));
+    }
+    if misnumbered(s, word) {
+        return Judged::Faulty(Refusal::Number(i));
+    }
+    if misplaced(word) {
+        return Judged::Faulty(Refusal::Place(i));
+    }
+    if miscounted(s, word) {
+        return Judged::Faulty(Refusal::Count(i));
+    }
+    if mismarked(s, word) {
+        return Judged::Faulty(Refusal::Mark(i));
+    }
+    Judged::Sound
+}
+
+// What is told once a word is added.
+fn next(s: Before, word: u32) -> Before
+    requires { ⌜ s .lifts ≤ longest ⌝ }
+    ensures { λ r. ⌜ r ≡ nextOf s word ⌝ }
+{
+    let kind = Sheet::kind(word);
+    if kind == Sheet::LIFT {
+        return Before {
+            kind,
+            number: Sheet::payload(word),
+            old: s.old,
+            lifts: s.lifts + 1,
+        };
+    }
+    if kind == Sheet::OLD {
+        return Before {
+            kind,
+            number: s.number,
+            old: Sheet::measure(word),
+            lifts: s.lifts,
+        };
+    }
+    Before {
+        kind,
+        number: s.number,
+        old: s.old,
+        lifts: s.lifts,
+    }
+}
+
+// The refusal that the words meet.
+fn read(sheet: &[u32]) -> Judged
+    requires { ⌜ length (now sheet) ≤ longest ⌝ }
+    ensures { λ r. ⌜ toldOfWords r ≡ reading (now (sheet .entry)) ⌝ }
+{
+    let mut s = Before {
+        kind: 0,
+        number: 0,
+        old: 0,
+        lifts: 0,
+    };
+    let mut i = 0;
+    while i < sheet.len() {
+        let word = sheet[i];
+        match judge(s, word, i) {
+            Judged::Faulty(x) => {
+                return Judged::Faulty(x);
+            }
+            Judged::Sound => {
+                s = next(s, word);
+            }
+        }
+        i += 1;
+    }
+    if s.kind == Sheet::END {
+        return Judged::Sound;
+    }
+    Judged::Faulty(Refusal::Sequence(i))
+}
+
+// ---- the lifts of a legible sheet
+
+// How many held words the lift at position i has.
+fn marks(sheet: &[u32], i: usize) -> usize
+    requires { ⌜ i + 3 < length (now sheet) ⌝ }
+    ensures { λ r. ⌜ r ≡ indicator (liftOf (drop i (now (sheet .entry))) .held) ⌝ }
+{
+    if Sheet::kind(sheet[i + 3]) == Sheet::HELD {
+        return 1;
+    }
+    0
+}
+
+// The word of the lift at position i that tells one of its places.
+fn place(sheet: &[u32], i: usize, side: Side) -> u32
+    requires { ⌜ i + 3 < length (now sheet) ⌝ }
+    ensures { λ r. ⌜ placeOf r ≡ placeAt side (liftOf (drop i (now (sheet .entry)))) ⌝ }
+{
+    match side {
+        Side::Old => sheet[i + 1],
+        Side::New => sheet[i + 2],
+    }
+}
+
+// A field of the lift at position i.
+fn value(sheet: &[u32], i: usize, field: Field) -> u64
+    requires { ⌜ i + 3 < length (now sheet) ⌝ }
+    ensures { λ r. ⌜ r ≡ fieldOf field (liftOf (drop i (now (sheet .entry)))) ⌝ }
+{
+    match field {
+        Field::Number => Sheet::payload(sheet[i]) as u64,
+        Field::Round(side) => Sheet::round(place(sheet, i, side)) as u64,
+        Field::Measure(side) => Sheet::measure(place(sheet, i, side)),
+        Field::Held => marks(sheet, i) as u64,
+        Field::Unit => 1,
+    }
+}
+
+// For each old or new round, the sum of a field over its lifts.
+pub fn tally(sheet: &[u32], side: Side, field: Field) -> [u64; Sheet::TABLE]
+    requires { ⌜ Legible (now sheet) ⌝ }
+    ensures { λ r. ⌜ r ≡ tallyOf side field (lifts (now (sheet .entry))) ⌝ }
+{
+    let mut sums = [0u64; Sheet::TABLE];
+    let mut i = 0;
+    while i + 1 < sheet.len() {
+        let round = value(sheet, i, Field::Round(side)) as usize;
+        sums[round] += value(sheet, i, field);
+        i += 3 + marks(sheet, i);
+    }
+    sums
+}
+
+// The bit of an old round among the 64 from `first` up, for a lift that sends measure.
+fn bit(round: u64, measure: u64, first: u64) -> u64
+    ensures { λ r. ⌜ r ≡ bitOf round measure first ⌝ }
+{
+    if measure == 0 {
+        return 0;
+    }
+    if round < first {
+        return 0;
+    }
+    let t = round - first;
+    if t < 64 {
+        return 1 << t;
+    }
+    0
+}
+
+// For each new round, a bit for each of the 64 old rounds from `first` up: whether it is a donor.
+pub fn donors(sheet: &[u32], first: u64) -> [u64; Sheet::TABLE]
+    requires { ⌜ Legible (now sheet) ⌝ }
+    ensures { λ r. ⌜ r ≡ donorsOf first (lifts (now (sheet .entry))) ⌝ }
+{
+    let mut words = [0u64; Sheet::TABLE];
+    let mut i = 0;
+    while i + 1 < sheet.len() {
+        let round = value(sheet, i, Field::Round(Side::New)) as usize;
+        let old = value(sheet, i, Field::Round(Side::Old));
+        let measure = value(sheet, i, Field::Measure(Side::Old));
+        words[round] = words[round] | bit(old, measure, first);
+        i += 3 + marks(sheet, i);
+    }
+    words
+}
+
+// Where each new round begins when each round's lifts stand together.
+pub fn starts(sheet: &[u32]) -> [u64; Sheet::TABLE]
+    requires { ⌜ Legible (now sheet) ⌝ }
+    ensures { λ r. ⌜ r ≡ table (λ t. below t (lifts (now (sheet .entry)))) ⌝ }
+{
+    let counts = tally(sheet, Side::New, Field::Unit);
+    let mut starts = [0u64; Sheet::TABLE];
+    let mut sum: u64 = 0;
+    let mut r = 0;
+    while r < Sheet::TABLE {
+        starts[r] = sum;
+        sum += counts[r];
+        r += 1;
+    }
+    starts
+}
+
+// A field of all lifts, each new round's together in lift order.
+pub fn by_round(sheet: &[u32], field: Field, starts: [u64; Sheet::TABLE], out: &mut [u64])
+    requires { ⌜ Legible (now sheet) ⌝ }
+    requires { ⌜ starts ≡ table (λ r. below r (lifts (now sheet))) ⌝ }
+    requires { ⌜ length (now out) ≡ length (lifts (now sheet)) ⌝ }
+    ensures { λ _. ⌜ ByRound (fieldOf field) (lifts (now (sheet .entry))) (now (out .exit)) ⌝ }
+{
+    let mut free = starts;
+    let mut i = 0;
+    while i + 1 < sheet.len() {
+        let round = value(sheet, i, Field::Round(Side::New)) as usize;
+        let at = free[round];
+        let place = at as usize;
+        out[place] = value(sheet, i, field);
+        free[round] = at + 1;
+        i += 3 + marks(sheet, i);
+    }
+}
+
+// ---- the rounds
+
+// Whether a refusal applies to a round, from two of its numbers.
+fn breaks(rule: Rule, a: u64, b: u64) -> bool
+    ensures { λ r. ⌜ r ≡ breaksOf rule a b ⌝ }
+{
+    match rule {
+        Rule::Unheld => 0 < a && b != 1,
+        Rule::Oversize => Sheet::LARGEST_SUM < a,
+        Rule::Unmeasured => 0 < a && b == 0,
+        Rule::Crowded => 3 <= u64::count_ones(a) + u64::count_ones(b),
+    }
+}
+
+// The first round that a refusal applies to, from two tables.
+fn first(rule: Rule, a: &[u64; Sheet::TABLE], b: &[u64; Sheet::TABLE]) -> Found
+    ensures { λ r. ⌜ r ≡ firstOf (rounds (λ t. breaksOf rule (getD (now (a .entry)) t 0) (getD (now (b .entry)) t 0))) ⌝ }
+{
+    let mut r = 1;
+    while r <= Sheet::MOST_ROUNDS {
+        if breaks(rule, a[r], b[r]) {
+            return Found::At(r);
+        }
+        r += 1;
+    }
+    Found::Nothing
+}
+
+// 1 for a number above 0, else 0.
+fn some(n: u64) -> usize
+    ensures { λ r. ⌜ r ≡ indicator (ltb 0 n) ⌝ }
+{
+    if 0 < n {
+        return 1;
+    }
+    0
+}
+
+// How many new rounds are in use.
+fn in_use(sheet: &[u32]) -> usize
+    requires { ⌜ Legible (now sheet) ⌝ }
+    ensures { λ r. ⌜ r ≡ length (inUse Side.New (lifts (now (sheet .entry)))) ⌝ }
+{
+    let counts = tally(sheet, Side::New, Field::Unit);
+    let mut n = 0;
+    let mut r = 1;
+    while r <= Sheet::MOST_ROUNDS {
+        n += some(counts[r]);
+        r += 1;
+    }
+    n
+}
+
+// How many lifts there are, by the end word.
+fn size(sheet: &[u32]) -> usize
+    requires { ⌜ Legible (now sheet) ⌝ }
+    ensures { λ r. ⌜ r ≡ length (lifts (now (sheet .entry))) ⌝ }
+{
+    Sheet::payload(sheet[sheet.len() - 1]) as usize
+}
+
+// The first old round without exactly one held lift.
+fn find_unheld(sheet: &[u32]) -> Found
+    requires { ⌜ Legible (now sheet) ⌝ }
+    ensures { λ r. ⌜ r ≡ firstOf (rounds (unheld (lifts (now (sheet .entry))))) ⌝ }
+{
+    let counts = tally(sheet, Side::Old, Field::Unit);
+    let held = tally(sheet, Side::Old, Field::Held);
+    first(Rule::Unheld, &counts, &held)
+}
+
+// The first old or new round whose sum is too large.
+fn find_oversize(sheet: &[u32], side: Side) -> Found
+    requires { ⌜ Legible (now sheet) ⌝ }
+    ensures { λ r. ⌜ r ≡ firstOf (rounds (oversize side (lifts (now (sheet .entry))))) ⌝ }
+{
+    let sums = tally(sheet, side, Field::Measure(side));
+    first(Rule::Oversize, &sums, &sums)
+}
+
+// The first new round whose sum is 0.
+fn find_unmeasured(sheet: &[u32]) -> Found
+    requires { ⌜ Legible (now sheet) ⌝ }
+    ensures { λ r. ⌜ r ≡ firstOf (rounds (unmeasured (lifts (now (sheet .entry))))) ⌝ }
+{
+    let counts = tally(sheet, Side::New, Field::Unit);
+    let sums = tally(sheet, Side::New, Field::Measure(Side::New));
+    first(Rule::Unmeasured, &counts, &sums)
+}
+
+// The first new round with three donors or more.
+fn find_crowded(sheet: &[u32]) -> Found
+    requires { ⌜ Legible (now sheet) ⌝ }
+    ensures { λ r. ⌜ r ≡ firstOf (rounds (crowded (lifts (now (sheet .entry))))) ⌝ }
+{
+    let low = donors(sheet, 0);
+    let high = donors(sheet, 64);
+    first(Rule::Crowded, &low, &high)
+}
+
+// The answer to a legible sheet.
+fn check_rounds(sheet: &[u32]) -> Checked
+    requires { ⌜ Legible (now sheet) ⌝ }
+    ensures { λ r. ⌜ told r ≡ ofRounds (lifts (now (sheet .entry))) ⌝ }
+{
+    if let Found::At(r) = find_unheld(sheet) {
+        return Checked::Refused(Refusal::Held(r));
+    }
+    if let Found::At(r) = find_oversize(sheet, Side::Old) {
+        return Checked::Refused(Refusal::Sum(r));
+    }
+    if let Found::At(r) = find_oversize(sheet, Side::New) {
+        return Checked::Refused(Refusal::Sum(r));
+    }
+    if let Found::At(r) = find_unmeasured(sheet) {
+        return Checked::Refused(Refusal::Empty(r));
+    }
+    if let Found::At(r) = find_crowded(sheet) {
+        return Checked::Refused(Refusal::Donors(r));
+    }
+    Checked::Fits(Sheet {
+        lifts: size(sheet),
+        rounds: in_use(sheet),
+    })
+}
+
+// The answer to any words: refused, with the document's number and place, or fitting.
+pub fn check(sheet: &[u32]) -> Checked
+    ensures { λ r. ⌜ told r ≡ verdict (now (sheet .entry)) ⌝ }
+{
+    let n = sheet.len();
+    if n == 0 || Sheet::LONGEST < n {
+        return Checked::Refused(Refusal::Length(n));
+    }
+    match read(sheet) {
+        Judged::Faulty(x) => Checked::Refused(x),
+        Judged::Sound => check_rounds(sheet),
+    }
+}
