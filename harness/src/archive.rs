@@ -1,6 +1,6 @@
 //! The proved functions of the archive, behind safe wrappers.
 
-use crate::reference::{Choice, Outcome, Round};
+use crate::reference::{Choice, Outcome, Round, Verdict};
 
 extern "C" {
     fn jengpilo_draw_below(
@@ -32,6 +32,13 @@ extern "C" {
         outcome: *mut u32,
         next: *mut usize,
     ) -> bool;
+
+    fn jengpilo_sheet_check(
+        sheet: *const u32,
+        len: usize,
+        place: *mut usize,
+        rounds: *mut usize,
+    ) -> u32;
 }
 
 /// What the places for an answer hold before the call.
@@ -110,6 +117,21 @@ pub fn select(round: &Round, words: &[u64], at: usize) -> Option<Choice> {
     None
 }
 
+/// Checks a sheet for the refusals because of the sheet.
+pub fn check_sheet(sheet: &[u32]) -> Verdict {
+    let unwritten = usize::MAX - 7;
+    let (mut place, mut rounds) = (unwritten, unwritten);
+    // SAFETY: the sheet and both places live through the call, and `len` is the sheet's length.
+    let number =
+        unsafe { jengpilo_sheet_check(sheet.as_ptr(), sheet.len(), &mut place, &mut rounds) };
+    if number == 0 {
+        let lifts = place;
+        return Verdict::Fits { lifts, rounds };
+    }
+    assert_eq!(rounds, unwritten, "a refusal wrote the rounds");
+    Verdict::Refused { number, place }
+}
+
 /// How many donors the round has.
 fn donors_of(round: &Round) -> usize {
     (0..2).filter(|&donor| round.came_here(donor) > 0).count()
@@ -124,7 +146,9 @@ fn check_required(round: &Round) {
         assert!((1..=whole).contains(&round.came_here(donor)) && whole <= largest);
     }
     for (donor, held) in round.held.iter().enumerate() {
-        assert!(held.map_or(true, |place| round.lifts[place].donor == Some(donor)));
+        if let Some(lift) = held.map(|place| round.lifts[place]) {
+            assert!(lift.donor == Some(donor) && lift.old_measure > 0);
+        }
     }
 }
 

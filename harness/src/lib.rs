@@ -3,3 +3,4 @@
 pub mod archive;
 pub mod reference;
 pub mod seeded;
+pub mod sheets;

@@ -67,6 +67,23 @@ impl Seeded {
     pub fn counted(&mut self, bound: u64) -> u64 {
         self.below(limit(bound))
     }
+
+    /// A sum of a round's measures: the largest, small, or any.
+    pub fn round_sum(&mut self) -> u64 {
+        match self.below(4) {
+            0 => 1 << 20,
+            1 => 1 + self.below(12),
+            _ => 1 + self.below(1 << 20),
+        }
+    }
+
+    /// Splits a sum into so many parts, at least 1, some of them 0.
+    pub fn split(&mut self, sum: u64, parts: usize) -> Vec<u64> {
+        let mut cuts: Vec<u64> = (1..parts).map(|_| self.below(sum + 1)).collect();
+        cuts.extend([0, sum]);
+        cuts.sort_unstable();
+        cuts.windows(2).map(|pair| pair[1] - pair[0]).collect()
+    }
 }
 
 /// K × W: the first word that is passed over.

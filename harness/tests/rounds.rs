@@ -80,32 +80,15 @@ fn worked_cases() {
     }
 }
 
-/// Splits a sum at random into so many parts, some of them 0.
-fn split(seeded: &mut Seeded, sum: u64, parts: usize) -> Vec<u64> {
-    let mut cuts: Vec<u64> = (1..parts).map(|_| seeded.below(sum + 1)).collect();
-    cuts.extend([0, sum]);
-    cuts.sort_unstable();
-    cuts.windows(2).map(|pair| pair[1] - pair[0]).collect()
-}
-
-/// A sum of a round's measures: the largest, small, or any.
-fn round_sum(seeded: &mut Seeded) -> u64 {
-    match seeded.below(4) {
-        0 => 1 << 20,
-        1 => 1 + seeded.below(12),
-        _ => 1 + seeded.below(1 << 20),
-    }
-}
-
 /// A round with up to so many donors, of sums up to the largest, with held lifts here or elsewhere.
 fn any_round(seeded: &mut Seeded, donors: usize) -> Round {
     let count = 1 + seeded.index(9);
-    let new_sum = round_sum(seeded);
-    let new_measures = split(seeded, new_sum, count);
+    let new_sum = seeded.round_sum();
+    let new_measures = seeded.split(new_sum, count);
     let came: Vec<Vec<u64>> = (0..donors)
         .map(|_| {
-            let (sum, elsewhere) = (round_sum(seeded), seeded.index(3));
-            split(seeded, sum, count + elsewhere)
+            let (sum, elsewhere) = (seeded.round_sum(), seeded.index(3));
+            seeded.split(sum, count + elsewhere)
         })
         .collect();
     let row = |place: usize| match seeded.index(donors + 1) {

@@ -11,6 +11,7 @@ use Rattle.round.specs.declared.Held.{Held}
 use Rattle.round.specs.declared.Held.the-variants.{Neither, Single, Both}
 use Rattle.round.specs.declared.Selected.{Selected}
 use Rattle.round.specs.declared.Selected.the-variants.{At, Short as Ended}
+use Rattle.sheet.specs.Refusal.{Verdict, refused, fits}
 
 -- whether there is a value
 abbrev pub isValue : Drawn → Bool
@@ -64,3 +65,24 @@ pub record Chose (s : Selected) (answer : Bool) (place place′ outcome outcome�
   pub place-written : place′ ≡ placeOr place s
   pub outcome-written : outcome′ ≡ outcomeOr outcome s
   pub next-written : next′ ≡ behindOr next s
+
+-- the document's number of a refusal, 0 where the sheet fits
+abbrev pub numberOf : Verdict → ℕ
+numberOf (refused x) = x .number
+numberOf (fits lifts rounds) = 0
+
+-- its place, or how many lifts there are
+abbrev pub placeOf : Verdict → ℕ
+placeOf (refused x) = x .place
+placeOf (fits lifts rounds) = lifts
+
+-- how many new rounds there are, or what was there before
+abbrev pub roundsOr : ℕ → Verdict → ℕ
+roundsOr x (refused y) = x
+roundsOr x (fits lifts rounds) = rounds
+
+-- the answer to a sheet of verdict v, and the two numbers lent: after the call, and of the second before it too
+pub record Judged (v : Verdict) (answer place′ rounds rounds′ : ℕ) : Type 0 where
+  pub told : answer ≡ numberOf v
+  pub place-written : place′ ≡ placeOf v
+  pub rounds-written : rounds′ ≡ roundsOr rounds v

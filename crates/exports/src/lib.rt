@@ -3,11 +3,13 @@ ghost use mathlib.Core.Path.{_≡_};
 ghost use Rattle.draw.specs.Draw.{largest, drawAt};
 ghost use Rattle.round.specs.Choice.{selected};
 ghost use Rattle.round.specs.Slices.{lifts, Level, Callable};
-ghost use Rattle.exports.specs.Reply.{Replied, donorsOf, heldOf, Chose};
+ghost use Rattle.sheet.specs.Refusal.{verdict};
+ghost use Rattle.exports.specs.Reply.{Replied, donorsOf, heldOf, Chose, Judged};
 use draw::Drawn;
 use round::Donors;
 use round::Held;
 use round::Selected;
+use sheet::Checked;
 
 // `draw::below`: true, the value and the next position written; or false, nothing written, where the words end. A bound of 0 has no value, so every word is passed over.
 #[no_mangle]
@@ -99,5 +101,24 @@ pub extern "C" fn jengpilo_round_select(
             true
         }
         Selected::Short => false,
+    }
+}
+
+// `sheet::check`: the document's number, the place written; or 0, how many lifts and how many new rounds written.
+#[no_mangle]
+pub extern "C" fn jengpilo_sheet_check(sheet: &[u32], place: &mut usize, rounds: &mut usize) -> u32
+    ensures { λ r. ⌜ Judged (verdict (now (sheet .entry))) r (now (place .exit)) (now (rounds .entry)) (now (rounds .exit)) ⌝ }
+{
+    let checked = sheet::check(sheet);
+    match checked {
+        Checked::Refused(x) => {
+            *place = x.place();
+            x.number()
+        }
+        Checked::Fits(s) => {
+            *place = s.lifts;
+            *rounds = s.rounds;
+            0
+        }
     }
 }
