@@ -9,3 +9,4 @@ pub mod Searches
 pub mod Sending
 pub mod Placing
 pub mod Verdicts
+pub mod Worked

@@ -4,3 +4,4 @@ pub mod Rounds
 pub mod Refusal
 pub mod Tables
 pub mod Law
+pub mod Worked
