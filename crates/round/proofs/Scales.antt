@@ -15,7 +15,7 @@ use Rattle.laws.specs.Plan.{draw, after}
 use Rattle.laws.proofs.Sums.{total-map, total-mul}
 use Rattle.round.specs.Round.{Lift, S, sent, U, D, oldWeight, newWeight, Weight, weights, growth, G, Fitting}
 use Rattle.round.specs.Choice.{fresh, firstOdds, preliminary, keyfitz, select, plan}
-use Rattle.round.specs.Slices.{lifts, Level, scaled, scaleOf, wholly, Room, Balanced, largestSum, Bounded, Stands, Callable, drawGrowth}
+use Rattle.round.specs.Slices.{lifts, Level, scaled, scaleOf, wholly, Room, Balanced, capacity, Bounded, Stands, Callable, drawGrowth}
 use Rattle.round.specs.declared.Donors.{Donors}
 use Rattle.round.specs.declared.Donors.the-variants.{None, One, Two}
 use Rattle.round.specs.declared.Held.{Held}
@@ -115,11 +115,11 @@ two-scale ls e p q r = rw (e, p, q, r, whole-G)
 
 -- the sums of a round with two donors
 record Small (T₁ T₂ : ℕ) (ls : List Lift) : Type 0 where
-  whole : S ls ≤ largestSum
-  first : T₁ ≤ largestSum
-  second : T₂ ≤ largestSum
-  part₁ : U 1 ls ≤ largestSum
-  part₂ : U 2 ls ≤ largestSum
+  whole : S ls ≤ capacity
+  first : T₁ ≤ capacity
+  second : T₂ ≤ capacity
+  part₁ : U 1 ls ≤ capacity
+  part₂ : U 2 ls ≤ capacity
 
 -- they and their products have room
 module _ {ds : Donors} {T₁ T₂ : ℕ} {ls : List Lift} (e : ds ≡ Two T₁ T₂) (f : Fitting ds ls) (b : Bounded ds ls) where

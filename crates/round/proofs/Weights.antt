@@ -8,7 +8,7 @@ use lib.ListN.{length}
 use Rattle.laws.specs.Sum.{total}
 use Rattle.laws.proofs.Sums.{total-map, total-mul, total-add, map-le, totalBy-map}
 use Rattle.round.specs.Round.{Lift, S, sent, U, D, oldWeight, newWeight, Weight, weights, weightAt, G, Sends, Donate, Fitting}
-use Rattle.round.specs.Slices.{largestSum, Bounded, SumsBounded}
+use Rattle.round.specs.Slices.{capacity, Bounded, SumsBounded}
 use Rattle.round.specs.declared.Donors.{Donors}
 use Rattle.round.specs.declared.Donors.the-variants.{None, One, Two}
 
@@ -75,7 +75,7 @@ unfolding D
 D-bound None ls d b = omega arith
 D-bound (One T) ls d b = omega (arith, d .part)
 D-bound (Two T₁ T₂) ls d b =
-    let u : U 1 ls ≤ largestSum = omega (arith, d .0 .part, b .0) in let v : U 2 ls ≤ largestSum = omega (arith, d .1 .part, b .1) in
+    let u : U 1 ls ≤ capacity = omega (arith, d .0 .part, b .0) in let v : U 2 ls ≤ capacity = omega (arith, d .1 .part, b .1) in
     omega (arith, mul-le-mul u (b .1), mul-le-mul v (b .0))
 
 -- "at most 2^61"

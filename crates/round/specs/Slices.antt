@@ -34,19 +34,19 @@ pub record Level (ms ds bs : List ℕ) : Type 0 where
   pub donors : length ds ≡ length ms
   pub news : length bs ≡ length ms
 
--- "each sum of a round's measures at most 1,048,576"
-abbrev pub largestSum : ℕ
-largestSum = 1048576
+-- the sums up to which the products of a round fit 64 bits; the sheet's largest sum is not above it
+abbrev pub capacity : ℕ
+capacity = 2 ^ 20
 
 -- the donors' whole old sums
 abbrev pub SumsBounded : Donors → Type 0
 SumsBounded None = Unit {0}
-SumsBounded (One T) = T ≤ largestSum
-SumsBounded (Two T₁ T₂) = (T₁ ≤ largestSum) × (T₂ ≤ largestSum)
+SumsBounded (One T) = T ≤ capacity
+SumsBounded (Two T₁ T₂) = (T₁ ≤ capacity) × (T₂ ≤ capacity)
 
--- no sum is above that (refusal 8)
+-- no sum is above that
 pub record Bounded (ds : Donors) (ls : List Lift) : Type 0 where
-  pub new : S ls ≤ largestSum
+  pub new : S ls ≤ capacity
   pub old : SumsBounded ds
 
 -- held lifts stand at places of the round; there is one only with a donor, and both only with two

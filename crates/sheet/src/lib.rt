@@ -1,7 +1,6 @@
 // The sheet: its words read, checked and refused ("The sheet" and "Refused because of the sheet" of document 01), and what a
 // legible sheet tells of its lifts and rounds.
 ghost use mathlib.Core.Path.{_≡_};
-ghost use mathlib.Core.Bool.{_&&_, _||_};
 ghost use Prim.Native.Nat.{_+_, _≤_, _<_};
 ghost use lib.Dec.{ltb};
 ghost use lib.ListN.{length, getD, drop};
