@@ -14,7 +14,7 @@ use Rattle.round.specs.declared.Selected.{Selected}
 use Rattle.round.specs.declared.Selected.the-variants.{At, Short as Ended}
 use Rattle.sheet.specs.Reading.{Numbered}
 use Rattle.sheet.specs.Refusal.{Verdict, refused, fits}
-use Rattle.exports.specs.Reply.{Replied, Chose, Judged}
+use Rattle.exports.specs.Reply.{Replied, Chose, Answered}
 
 pub replied-value : {d : Drawn} {v n x y : ℕ} → Value v n ≡ d → Replied d true x v y n
 replied-value e = rw (← e) (record { told = refl; value-written = refl; next-written = refl })
@@ -28,11 +28,11 @@ chose-at e = rw (← e) (record { told = refl; place-written = refl; outcome-wri
 pub chose-short : {s : Selected} {x y z : ℕ} → Ended ≡ s → Chose s false x x y y z z
 chose-short e = rw (← e) (record { told = refl; place-written = refl; outcome-written = refl; next-written = refl })
 
-pub judged-refused : {v : Verdict} {x : Numbered} {n p r : ℕ} → refused x ≡ v → n ≡ x .number → p ≡ x .place → Judged v n p r r
-judged-refused e h k = rw (← e) (record { told = h; place-written = k; rounds-written = refl })
+pub answered-refused : {v : Verdict} {x : Numbered} {n p r : ℕ} → refused x ≡ v → n ≡ x .number → p ≡ x .place → Answered v n p r r
+answered-refused e h k = rw (← e) (record { told = h; place-written = k; rounds-written = refl })
 
-pub judged-fits : {v : Verdict} {l k r : ℕ} → fits l k ≡ v → Judged v 0 l r k
-judged-fits e = rw (← e) (record { told = refl; place-written = refl; rounds-written = refl })
+pub answered-fits : {v : Verdict} {l k r : ℕ} → fits l k ≡ v → Answered v 0 l r k
+answered-fits e = rw (← e) (record { told = refl; place-written = refl; rounds-written = refl })
 
 -- what is asked of a round, and its answer, by the enums that the numbers stand for
 pub by-enums : {ds ds′ : Donors} {h h′ : Held} {ls : List Lift} → ds ≡ ds′ → h ≡ h′ → Callable ds′ ls h′ → Callable ds ls h

@@ -72,9 +72,9 @@ numberOf (refused x) = x .number
 numberOf (fits lifts rounds) = 0
 
 -- its place, or how many lifts there are
-abbrev pub placeOf : Verdict → ℕ
-placeOf (refused x) = x .place
-placeOf (fits lifts rounds) = lifts
+abbrev pub placeOrLifts : Verdict → ℕ
+placeOrLifts (refused x) = x .place
+placeOrLifts (fits lifts rounds) = lifts
 
 -- how many new rounds there are, or what was there before
 abbrev pub roundsOr : ℕ → Verdict → ℕ
@@ -82,7 +82,7 @@ roundsOr x (refused y) = x
 roundsOr x (fits lifts rounds) = rounds
 
 -- the answer to a sheet of verdict v, and the two numbers lent: after the call, and of the second before it too
-pub record Judged (v : Verdict) (answer place′ rounds rounds′ : ℕ) : Type 0 where
+pub record Answered (v : Verdict) (answer place′ rounds rounds′ : ℕ) : Type 0 where
   pub told : answer ≡ numberOf v
-  pub place-written : place′ ≡ placeOf v
+  pub place-written : place′ ≡ placeOrLifts v
   pub rounds-written : rounds′ ≡ roundsOr rounds v

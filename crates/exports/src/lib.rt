@@ -4,7 +4,7 @@ ghost use Rattle.draw.specs.Draw.{largest, drawAt};
 ghost use Rattle.round.specs.Choice.{selected};
 ghost use Rattle.round.specs.Slices.{lifts, Level, Callable};
 ghost use Rattle.sheet.specs.Refusal.{verdict};
-ghost use Rattle.exports.specs.Reply.{Replied, donorsOf, heldOf, Chose, Judged};
+ghost use Rattle.exports.specs.Reply.{Replied, donorsOf, heldOf, Chose, Answered};
 use draw::Drawn;
 use round::Donors;
 use round::Held;
@@ -107,7 +107,7 @@ pub extern "C" fn jengpilo_round_select(
 // `sheet::check`: the document's number, the place written; or 0, how many lifts and how many new rounds written.
 #[no_mangle]
 pub extern "C" fn jengpilo_sheet_check(sheet: &[u32], place: &mut usize, rounds: &mut usize) -> u32
-    ensures { λ r. ⌜ Judged (verdict (now (sheet .entry))) r (now (place .exit)) (now (rounds .entry)) (now (rounds .exit)) ⌝ }
+    ensures { λ r. ⌜ Answered (verdict (now (sheet .entry))) r (now (place .exit)) (now (rounds .entry)) (now (rounds .exit)) ⌝ }
 {
     let checked = sheet::check(sheet);
     match checked {

@@ -1,7 +1,7 @@
 -- Laws of sums and of counting. Each goes by induction along the range or the list.
 use Prim.Native.Nat.{ℕ, zero, suc, _+_, _*_, _≤_, _<_}
 use mathlib.Core.Path.{_≡_, refl, sym, ap, ap₂, _∙_}
-use mathlib.Core.Bool.{cond}
+use mathlib.Core.Bool.{Bool, true, false, cond}
 use mathlib.Core.List.{List, [], _∷_, map}
 use native.Mathlib.Nat.{add-assoc, add-comm, suc-add, zero-add, mul-one, mul-zero, zero-mul, suc-mul}
 use native.Mathlib.Omega.{arith}
@@ -98,6 +98,17 @@ unfolding over
 Σ-term zero i f l = absurd (omega arith)
 Σ-term (suc n) zero f l = omega arith
 Σ-term (suc n) (suc i) f l = omega (arith, Σ-term n i (λ k. f (suc k)) (omega arith))
+
+-- ---- tests
+
+pub indicator-le : (t : Bool) → indicator t ≤ 1
+indicator-le true = omega arith
+indicator-le false = omega arith
+
+-- a list is longer by one where a test passes
+pub length-cond : {A : Type 0} (t : Bool) (x : A) (xs : List A) → length (cond t (x ∷ xs) xs) ≡ indicator t + length xs
+length-cond true x xs = omega arith
+length-cond false x xs = omega arith
 
 -- ---- over a list
 

@@ -1,6 +1,6 @@
 -- Laws of numbers made of bits. Each goes by induction along the bits.
-use Prim.Native.Nat.{ℕ, zero, suc, _+_, _*_, _/_, _%_, _^_, _≤_, _<_, max}
-use mathlib.Core.Path.{_≡_, refl, ap₂, _∙_}
+use Prim.Native.Nat.{ℕ, zero, suc, _+_, _*_, _/_, _%_, _^_, _<_, max}
+use mathlib.Core.Path.{_≡_, refl, _∙_}
 use mathlib.Core.Bool.{Bool, true, false, _&&_, _||_}
 use native.Mathlib.Nat.{pow-suc}
 use native.Mathlib.Omega.{arith}
@@ -22,23 +22,7 @@ high : (b : Bool) (x : ℕ) → (indicator b + 2 * x) / 2 ≡ x
 high true x = omega arith
 high false x = omega arith
 
-low-le : (b : Bool) → indicator b ≤ 1
-low-le true = omega arith
-low-le false = omega arith
-
 -- ---- all bits
-
--- the bits below n tell the number
-pub bits-ext : (n : ℕ) {p q : ℕ → Bool} → ((t : ℕ) → t < n → p t ≡ q t) → bits n p ≡ bits n q
-unfolding bits
-bits-ext zero h = refl
-bits-ext (suc n) h = ap₂ (λ b x. indicator b + 2 * x) (h 0 (omega arith)) (bits-ext n (λ t l. h (suc t) (omega arith)))
-
--- n bits make a number below 2 ^ n
-pub bits-lt : (n : ℕ) (p : ℕ → Bool) → bits n p < 2 ^ n
-unfolding bits
-bits-lt zero p = omega arith
-bits-lt (suc n) p = omega (arith, pow-suc 2 n, low-le (p 0), bits-lt n (λ t. p (suc t)))
 
 -- as many bits are set as pass the test
 pub bits-ones : (n : ℕ) (p : ℕ → Bool) → ones (bits n p) ≡ count n p

@@ -10,7 +10,7 @@ use lib.Dec.{eqb}
 use lib.ListN.{length}
 use borrow.Author.Tests.{eqb-true, eqb-false}
 use Rattle.laws.specs.Sum.{over, indicator, count}
-use Rattle.laws.proofs.Sums.{over-ext}
+use Rattle.laws.proofs.Sums.{over-ext, indicator-le, length-cond}
 use Rattle.sheet.specs.Sheet.{mostRounds}
 use Rattle.sheet.specs.Rounds.{those, rounds}
 use Rattle.sheet.specs.Tables.{first}
@@ -24,16 +24,12 @@ those-ext a zero h = refl
 those-ext a (suc n) {p} {q} h =
     rw (h a (omega arith) (omega arith), those-ext (suc a) n {p = p} {q = q} (λ t l r. h t (omega arith) (omega arith)))
 
-length-keep : (t : Bool) (x : ℕ) (xs : List ℕ) → length (cond t (x ∷ xs) xs) ≡ indicator t + length xs
-length-keep true x xs = omega arith
-length-keep false x xs = omega arith
-
 -- how many they are
 pub those-count : (p : ℕ → Bool) (a n : ℕ) → length (those p a n) ≡ count n (λ t. p (a + t))
 unfolding those over
 those-count p a zero = refl
 those-count p a (suc n) =
-    length-keep (p a) a (those p (suc a) n)
+    length-cond (p a) a (those p (suc a) n)
     ∙ ap₂ _+_ (ap (λ x. indicator (p x)) (sym (add-zero a)))
     (those-count p (suc a) n ∙ over-ext _+_ 0 n (λ t l. let e : suc a + t ≡ a + suc t = omega arith in ap (λ x. indicator (p x)) e))
 
@@ -96,15 +92,11 @@ pub record Counted (p : ℕ → Bool) (n r : ℕ) : Type 0 where
 pub counted-none : (p : ℕ → Bool) → Counted p 0 1
 counted-none p = record { most = omega arith; same = omega arith }
 
-indicator-le : (t : Bool) → indicator t ≤ 1
-indicator-le true = omega arith
-indicator-le false = omega arith
-
 pub counted-turn : {p : ℕ → Bool} {n r x : ℕ} → r ≤ mostRounds → Counted p n r → x ≡ indicator (p r) → Counted p (n + x) (r + 1)
 counted-turn {p} {n} {r} h d e =
     record {
       most = omega (arith, d .most, indicator-le (p r));
-      same = omega (arith, d .same, ap length (from-step p r h), length-keep (p r) r (from p (r + 1)));
+      same = omega (arith, d .same, ap length (from-step p r h), length-cond (p r) r (from p (r + 1)));
     }
 
 pub counted-end : {p : ℕ → Bool} {n r : ℕ} → mostRounds < r → Counted p n r → n ≡ length (rounds p)

@@ -1,19 +1,19 @@
 -- The answer to a sheet: the tests of the code on tables are the document's on lifts, and one law for each way out.
 use Prim.Native.Nat.{ℕ, _+_, _≤_, _<_}
 use mathlib.Core.Path.{_≡_, refl, ap, ap₂, _∙_}
-use mathlib.Core.Bool.{Bool, true, false, cond, or-true}
-use mathlib.Core.List.{List, [], _∷_, tail}
+use mathlib.Core.Bool.{Bool, true, false, cond, _||_, or-true, true≢false}
+use mathlib.Core.List.{List, [], _∷_}
 use native.Mathlib.Omega.{arith}
 use mathlib.Core.Logic.{_⊎_, inl, inr}
 use lib.Dec.{eqb, leb, ltb}
 use lib.ListN.{length, getD}
-use borrow.Author.Tests.{eq-eqb, ne-eqb, lt-ltb, le-ltb}
+use borrow.Author.Tests.{eq-eqb, ne-eqb, lt-ltb, le-ltb, ltb-false}
 use Rattle.sheet.specs.Sheet.{mostRounds, longest, Lift, lifts}
-use Rattle.sheet.specs.Reading.{Numbered, numbered, Reading, faulty, sound, reading, Legible}
+use Rattle.sheet.specs.Reading.{mislong, Numbered, numbered, Reading, faulty, sound, reading, Legible}
 use Rattle.sheet.specs.Rounds.{rounds, inUse}
-use Rattle.sheet.specs.Refusal.{Verdict, refused, fits, mislong, unheld, oversize, unmeasured, crowded, firstRound, ofRounds, firstWord, verdict}
+use Rattle.sheet.specs.Refusal.{Verdict, refused, fits, unheld, oversize, unmeasured, crowded, firstRound, ofRounds, firstWord, verdict}
 use Rattle.sheet.specs.Tables.{table, tallyOf, donorsOf, breaks, first}
-use Rattle.sheet.specs.Law.{DecidedTheorem}
+use Rattle.sheet.specs.Law.{Fitting, DecidedTheorem}
 use Rattle.sheet.specs.declared.Side.{Side}
 use Rattle.sheet.specs.declared.Side.the-variants.{Old, New}
 use Rattle.sheet.specs.declared.Field.the-variants.{Measure, Held, Unit}
@@ -56,42 +56,45 @@ found-crowded {ws} l ea eb e =
 
 -- ---- the ways out
 
-empty : (rs : List ℕ) → Nothing ≡ first rs → rs ≡ []
-empty [] e = refl
-empty (r ∷ rs) e = let z : _≡_ {A = ℕ} 0 1 = cc in absurd (omega arith)
+-- a refusal that meets a round, and one that meets none
+met : (n : ℕ) {r : ℕ} (rs : List ℕ) (v : Verdict) → At r ≡ first rs → refused (numbered n r) ≡ firstRound n rs v
+unfolding firstRound
+met n [] v e = cc
+met n (x ∷ rs) v e = cc
 
-heads : {r : ℕ} (rs : List ℕ) → At r ≡ first rs → rs ≡ r ∷ tail rs
-heads [] e = let z : _≡_ {A = ℕ} 0 1 = cc in absurd (omega arith)
-heads (x ∷ rs) e = cc
+unmet : (n : ℕ) (rs : List ℕ) (v : Verdict) → Nothing ≡ first rs → v ≡ firstRound n rs v
+unfolding firstRound
+unmet n [] v e = refl
+unmet n (r ∷ rs) v e = cc
 
 module _ (ls : List Lift) where
   pub at-unheld : {r : ℕ} → At r ≡ first (rounds (unheld ls)) → refused (numbered 7 r) ≡ ofRounds ls
   unfolding ofRounds
-  at-unheld e = rw (heads (rounds (unheld ls)) e)
+  at-unheld e = met 7 _ _ e
 
   module _ (a : Nothing ≡ first (rounds (unheld ls))) where
     pub at-old : {r : ℕ} → At r ≡ first (rounds (oversize Old ls)) → refused (numbered 8 r) ≡ ofRounds ls
     unfolding ofRounds
-    at-old e = rw (empty (rounds (unheld ls)) a, heads (rounds (oversize Old ls)) e)
+    at-old e = met 8 _ _ e ∙ unmet 7 _ _ a
 
     module _ (b : Nothing ≡ first (rounds (oversize Old ls))) where
       pub at-new : {r : ℕ} → At r ≡ first (rounds (oversize New ls)) → refused (numbered 8 r) ≡ ofRounds ls
       unfolding ofRounds
-      at-new e = rw (empty (rounds (unheld ls)) a, empty (rounds (oversize Old ls)) b, heads (rounds (oversize New ls)) e)
+      at-new e = met 8 _ _ e ∙ unmet 8 _ _ b ∙ unmet 7 _ _ a
 
       module _ (c : Nothing ≡ first (rounds (oversize New ls))) where
         pub at-unmeasured : {r : ℕ} → At r ≡ first (rounds (unmeasured ls)) → refused (numbered 9 r) ≡ ofRounds ls
         unfolding ofRounds
-        at-unmeasured e = rw (empty (rounds (unheld ls)) a, empty (rounds (oversize Old ls)) b, empty (rounds (oversize New ls)) c, heads (rounds (unmeasured ls)) e)
+        at-unmeasured e = met 9 _ _ e ∙ unmet 8 _ _ c ∙ unmet 8 _ _ b ∙ unmet 7 _ _ a
 
         module _ (d : Nothing ≡ first (rounds (unmeasured ls))) where
           pub at-crowded : {r : ℕ} → At r ≡ first (rounds (crowded ls)) → refused (numbered 10 r) ≡ ofRounds ls
           unfolding ofRounds
-          at-crowded e = rw (empty (rounds (unheld ls)) a, empty (rounds (oversize Old ls)) b, empty (rounds (oversize New ls)) c, empty (rounds (unmeasured ls)) d, heads (rounds (crowded ls)) e)
+          at-crowded e = met 10 _ _ e ∙ unmet 9 _ _ d ∙ unmet 8 _ _ c ∙ unmet 8 _ _ b ∙ unmet 7 _ _ a
 
           pub at-last : Nothing ≡ first (rounds (crowded ls)) → fits (length ls) (length (inUse New ls)) ≡ ofRounds ls
           unfolding ofRounds
-          at-last e = rw (empty (rounds (unheld ls)) a, empty (rounds (oversize Old ls)) b, empty (rounds (oversize New ls)) c, empty (rounds (unmeasured ls)) d, empty (rounds (crowded ls)) e)
+          at-last e = unmet 10 _ _ e ∙ unmet 9 _ _ d ∙ unmet 8 _ _ c ∙ unmet 8 _ _ b ∙ unmet 7 _ _ a
 
 module _ (ws : List ℕ) where
   pub at-length : (length ws ≡ 0) ⊎ (longest < length ws) → refused (numbered 1 (length ws)) ≡ verdict ws
@@ -114,24 +117,25 @@ module _ (ws : List ℕ) where
 
 -- a refusal that is not given meets no round
 passed : (n : ℕ) (rs : List ℕ) (v : Verdict) {a b : ℕ} → firstRound n rs v ≡ fits a b → (rs ≡ []) × (v ≡ fits a b)
+unfolding firstRound
 passed n [] v e = (refl, e)
-passed n (r ∷ rs) v e = let z : _≡_ {A = ℕ} 0 1 = cc in absurd (omega arith)
+passed n (r ∷ rs) v e = (cc, cc)
 
 read-through : (r : Reading) (v : Verdict) {a b : ℕ} → firstWord r v ≡ fits a b → (r ≡ sound) × (v ≡ fits a b)
 read-through sound v e = (refl, e)
-read-through (faulty x) v e = let z : _≡_ {A = ℕ} 0 1 = cc in absurd (omega arith)
+read-through (faulty x) v e = (cc, cc)
 
 well-long : (t : Bool) (x : Numbered) (v : Verdict) {a b : ℕ} → cond t (refused x) v ≡ fits a b → (t ≡ false) × (v ≡ fits a b)
-well-long true x v e = let z : _≡_ {A = ℕ} 0 1 = cc in absurd (omega arith)
+well-long true x v e = (cc, cc)
 well-long false x v e = (refl, e)
 
 pub decided : DecidedTheorem
-unfolding verdict ofRounds
+unfolding verdict ofRounds firstRound
 decided ws =
     record {
       passes = λ f.
           rw (f .length, f .words)
-          (rw (clear (unheld ls) (f .held), clear (oversize Old ls) (f .old), clear (oversize New ls) (f .new), clear (unmeasured ls) (f .sums), clear (crowded ls) (f .donors)));
+          (rw (clear (unheld ls) (f .held), clear (oversize Old ls) (f .old), clear (oversize New ls) (f .new), clear (unmeasured ls) (f .measured), clear (crowded ls) (f .donors)));
       only = λ n k e.
           let l = well-long (mislong ws) _ (firstWord (reading ws) (ofRounds ls)) e in
           let w = read-through (reading ws) (ofRounds ls) (l .1) in
@@ -140,15 +144,16 @@ decided ws =
           let c = passed 8 (rounds (oversize New ls)) _ (b .1) in
           let d = passed 9 (rounds (unmeasured ls)) _ (c .1) in
           let g = passed 10 (rounds (crowded ls)) _ (d .1) in
-          record {
+          let fitting : Fitting ws = record {
             length = l .0;
             words = w .0;
             held = none (unheld ls) (a .0);
             old = none (oversize Old ls) (b .0);
             new = none (oversize New ls) (c .0);
-            sums = none (unmeasured ls) (d .0);
+            measured = none (unmeasured ls) (d .0);
             donors = none (crowded ls) (g .0);
-          };
+          } in
+          (fitting, cc (g .1), cc (g .1));
     }
   where
     ls : List Lift
@@ -159,3 +164,11 @@ decided ws =
 
     none : (p : ℕ → Bool) → rounds p ≡ [] → (r : ℕ) → 1 ≤ r → r ≤ mostRounds → p r ≡ false
     none p e r l m = none-those p 1 mostRounds e r l (omega arith)
+
+-- a fitting sheet is legible
+pub legible : {ws : List ℕ} → Fitting ws → Legible ws
+legible {ws} f = record { short = go (eqb (length ws) 0) (f .length); read = f .words }
+  where
+    go : (t : Bool) → t || ltb longest (length ws) ≡ false → length ws ≤ longest
+    go true e = absurd (true≢false e)
+    go false e = ltb-false longest (length ws) e

@@ -8,6 +8,7 @@ use native.Mathlib.Omega.{arith}
 use lib.ListN.{length, getD, drop, length-append, length-drop}
 use lib.Seq.{drop-drop, getD-append-add}
 use Rattle.laws.specs.Sum.{indicator}
+use Rattle.laws.proofs.Sums.{indicator-le}
 use Rattle.sheet.specs.Sheet.{mostRounds, kind, payload, liftKind, oldKind, newKind, heldKind, endKind, Lift, liftOf, lifts, word, placeWord, wordsOf, written}
 use Rattle.sheet.specs.Reading.{Legible}
 use Rattle.sheet.specs.Rounds.{placeAt}
@@ -48,13 +49,9 @@ pub round-lt : {ws : List ℕ} {i k : ℕ} (side : Side) → Turn ws i → k ≡
 round-lt Old t e = omega (arith, t .old .round)
 round-lt New t e = omega (arith, t .new .round)
 
-flag-le : (t : Bool) → indicator t ≤ 1
-flag-le true = omega arith
-flag-le false = omega arith
-
 -- a turn moves on, and not beyond the words
 pub moved : {ws : List ℕ} {i m : ℕ} → Turn ws i → m ≡ indicator (liftOf (drop i ws) .held) → i + (3 + m) ≤ length ws
-moved {ws} {i} t e = omega (arith, t .room, flag-le (liftOf (drop i ws) .held))
+moved {ws} {i} t e = omega (arith, t .room, indicator-le (liftOf (drop i ws) .held))
 
 -- a word of kind 1 is read as a lift, another is passed over
 lifts-lift : (w : ℕ) → kind w ≡ liftKind → (ws : List ℕ) → lifts (w ∷ ws) ≡ liftOf (w ∷ ws) ∷ lifts ws

@@ -5,9 +5,9 @@ use Rattle.laws.specs.Sum.{totalBy}
 use Rattle.sheet.specs.Sheet.{lifts, written}
 use Rattle.sheet.specs.Reading.{fault, readFrom}
 use Rattle.sheet.specs.Rounds.{those, sends}
-use Rattle.sheet.specs.Refusal.{ofRounds, verdict}
+use Rattle.sheet.specs.Refusal.{firstRound, ofRounds, verdict}
 use Rattle.sheet.specs.Worked.{cases, allRight}
 
 pub all-right : allRight cases ≡ true
-unfolding totalBy lifts written fault readFrom those sends ofRounds verdict
+unfolding totalBy lifts written fault readFrom those sends firstRound ofRounds verdict
 all-right = refl

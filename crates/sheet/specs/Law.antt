@@ -1,13 +1,13 @@
 -- What is proved of sheets and of lists of lifts: reading and writing are inverse, and a sheet fits when no refusal applies.
 use Prim.Native.Nat.{ℕ, _^_, _≤_, _<_}
 use mathlib.Core.Path.{_≡_}
-use mathlib.Core.Bool.{true, false}
+use mathlib.Core.Bool.{Bool, true, false}
 use mathlib.Core.List.{List, [], _∷_}
 use lib.ListN.{length}
 use Rattle.sheet.specs.Sheet.{mostLifts, mostRounds, largestSum, Place, Lift, lifts, sheetOf}
-use Rattle.sheet.specs.Reading.{reading, sound}
+use Rattle.sheet.specs.Reading.{mislong, reading, sound}
 use Rattle.sheet.specs.Rounds.{inUse}
-use Rattle.sheet.specs.Refusal.{fits, mislong, unheld, oversize, unmeasured, crowded, verdict}
+use Rattle.sheet.specs.Refusal.{fits, unheld, oversize, unmeasured, crowded, verdict}
 use Rattle.sheet.specs.declared.Side.the-variants.{Old, New}
 
 -- ---- reading and writing
@@ -54,20 +54,24 @@ WrittenTheorem = (ls : List Lift) → Listable ls → Written ls
 
 -- ---- fitting
 
+-- no round passes the test
+abbrev pub Nowhere : (ℕ → Bool) → Type 0
+Nowhere p = (r : ℕ) → 1 ≤ r → r ≤ mostRounds → p r ≡ false
+
 -- a sheet fits when none of the refusals applies
 pub record Fitting (ws : List ℕ) : Type 0 where
   pub length : mislong ws ≡ false
   pub words : reading ws ≡ sound
-  pub held : (r : ℕ) → 1 ≤ r → r ≤ mostRounds → unheld (lifts ws) r ≡ false
-  pub old : (r : ℕ) → 1 ≤ r → r ≤ mostRounds → oversize Old (lifts ws) r ≡ false
-  pub new : (r : ℕ) → 1 ≤ r → r ≤ mostRounds → oversize New (lifts ws) r ≡ false
-  pub sums : (r : ℕ) → 1 ≤ r → r ≤ mostRounds → unmeasured (lifts ws) r ≡ false
-  pub donors : (r : ℕ) → 1 ≤ r → r ≤ mostRounds → crowded (lifts ws) r ≡ false
+  pub held : Nowhere (unheld (lifts ws))
+  pub old : Nowhere (oversize Old (lifts ws))
+  pub new : Nowhere (oversize New (lifts ws))
+  pub measured : Nowhere (unmeasured (lifts ws))
+  pub donors : Nowhere (crowded (lifts ws))
 
 -- exactly the sheets that fit are not refused
 pub record Decided (ws : List ℕ) : Type 0 where
   pub passes : Fitting ws → verdict ws ≡ fits (length (lifts ws)) (length (inUse New (lifts ws)))
-  pub only : (n k : ℕ) → verdict ws ≡ fits n k → Fitting ws
+  pub only : (n k : ℕ) → verdict ws ≡ fits n k → Fitting ws × (n ≡ length (lifts ws)) × (k ≡ length (inUse New (lifts ws)))
 
 abbrev pub DecidedTheorem : Type 0
 DecidedTheorem = (ws : List ℕ) → Decided ws

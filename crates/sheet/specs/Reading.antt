@@ -1,4 +1,4 @@
--- The words of a sheet one by one: refusals 2 to 6 of document 01, "the first faulty word deciding, 2 before the others".
+-- Refusals 1 to 6 of document 01: the length, and the words one by one, "the first faulty word deciding, 2 before the others".
 use Prim.Native.Nat.{ℕ, zero, suc, _+_, _≤_}
 use mathlib.Core.Path.{_≡_}
 use mathlib.Core.Bool.{Bool, false, cond, not, _&&_, _||_}
@@ -7,6 +7,12 @@ use lib.ListN.{length}
 use lib.Dec.{eqb, leb, ltb}
 use Rattle.sheet.specs.Sheet.{mostLifts, mostRounds, largestSum, longest, kind, payload, liftKind, oldKind, newKind, heldKind, endKind, placeOf}
 use Rattle.sheet.specs.declared.Before.{Before}
+
+-- "1. Length 0 or above 12,389 words."
+abbrev pub mislong : List ℕ → Bool
+mislong ws = eqb (length ws) 0 || ltb longest (length ws)
+
+-- ---- what the words before a word tell
 
 -- what the words before the first one tell: no kind, no lift
 abbrev pub start : Before

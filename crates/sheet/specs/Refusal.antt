@@ -1,16 +1,16 @@
 -- "Refused because of the sheet" of document 01.
 use Prim.Native.Nat.{ℕ}
-use mathlib.Core.Bool.{Bool, cond, not, _&&_, _||_}
+use mathlib.Core.Bool.{Bool, cond, not, _&&_}
 use mathlib.Core.List.{List, [], _∷_}
 use lib.ListN.{length}
 use lib.Dec.{eqb, leb, ltb}
-use Rattle.sheet.specs.Sheet.{longest, largestSum, Lift, lifts}
-use Rattle.sheet.specs.Reading.{Numbered, numbered, Reading, faulty, sound, reading}
+use Rattle.sheet.specs.Sheet.{largestSum, Lift, lifts}
+use Rattle.sheet.specs.Reading.{mislong, Numbered, numbered, Reading, faulty, sound, reading}
 use Rattle.sheet.specs.Rounds.{rounds, named, inUse, sumOf, heldIn, donors}
 use Rattle.sheet.specs.declared.Side.{Side}
 use Rattle.sheet.specs.declared.Side.the-variants.{Old, New}
 use Rattle.sheet.specs.declared.Refusal.{Refusal}
-use Rattle.sheet.specs.declared.Refusal.the-variants.{Length, Sequence, Number, Place, Count, Mark, Held, Sum, Empty, Donors}
+use Rattle.sheet.specs.declared.Refusal.the-variants.{Length, Sequence, Number, Place, Count, Held, Unheld, Oversize, Unmeasured, Crowded}
 use Rattle.sheet.specs.declared.Judged.{Judged}
 use Rattle.sheet.specs.declared.Judged.the-variants.{Faulty, Sound}
 use Rattle.sheet.specs.declared.Checked.{Checked}
@@ -21,11 +21,7 @@ pub data Verdict : Type 0 where
   refused : Numbered → Verdict
   fits : (lifts rounds : ℕ) → Verdict
 
--- ---- the refusals; 2 to 6 are those of a word, in Reading.antt
-
--- "1. Length 0 or above 12,389 words."
-abbrev pub mislong : List ℕ → Bool
-mislong ws = eqb (length ws) 0 || ltb longest (length ws)
+-- ---- the refusals of rounds; 1 to 6 are in Reading.antt
 
 -- "7. An old round from 1 up, named by any lift, without exactly one held lift."
 abbrev pub unheld : List Lift → ℕ → Bool
@@ -46,7 +42,7 @@ crowded ls r = leb 3 (length (donors r ls))
 -- ---- their order
 
 -- a refusal of the first of the rounds that it meets, if it meets any, else what follows
-abbrev pub firstRound : ℕ → List ℕ → Verdict → Verdict
+unfoldable pub firstRound : ℕ → List ℕ → Verdict → Verdict
 firstRound n [] v = v
 firstRound n (r ∷ rs) v = refused (numbered n r)
 
@@ -78,11 +74,11 @@ refusal (Sequence i) = numbered 2 i
 refusal (Number i) = numbered 3 i
 refusal (Place i) = numbered 4 i
 refusal (Count i) = numbered 5 i
-refusal (Mark i) = numbered 6 i
-refusal (Held r) = numbered 7 r
-refusal (Sum r) = numbered 8 r
-refusal (Empty r) = numbered 9 r
-refusal (Donors r) = numbered 10 r
+refusal (Held i) = numbered 6 i
+refusal (Unheld r) = numbered 7 r
+refusal (Oversize r) = numbered 8 r
+refusal (Unmeasured r) = numbered 9 r
+refusal (Crowded r) = numbered 10 r
 
 -- what the answer to a sheet says
 abbrev pub told : Checked → Verdict

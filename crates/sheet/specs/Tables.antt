@@ -56,11 +56,16 @@ unfoldable pub below : ℕ → List Lift → ℕ
 below r [] = 0
 below r (l ∷ ls) = indicator (ltb (l .new .round) r) + below r ls
 
+-- where each round begins, and where the last one ends
+abbrev pub startsOf : List Lift → List ℕ
+startsOf ls = tabulate (mostRounds + 2) (λ r. below r ls)
+
 -- a field of all lifts, each new round's together in lift order
 pub record ByRound (field : Lift → ℕ) (ls : List Lift) (out : List ℕ) : Type 0 where
   pub parts : (r : ℕ) → r ≤ mostRounds → slice (below r ls) (below (suc r) ls) out ≡ map field (ofRound r ls)
 
--- the refusals of rounds, from two numbers of a round
+-- the tests of the refusals of rounds, on two numbers of a round: how many lifts and how many held, the sum, how many lifts and the
+-- sum, the two words of donors
 abbrev pub breaks : Rule → ℕ → ℕ → Bool
 breaks Unheld lifts held = ltb 0 lifts && not (eqb held 1)
 breaks Oversize sum same = ltb largestSum sum

@@ -59,20 +59,31 @@ cases =
     ∷ case (word heldKind 1 ∷ []) (refused (numbered 2 0))
     ∷ case (0x1000000B ∷ 0x20200000 ∷ 0x30200001 ∷ word heldKind 0 ∷ 0 ∷ []) (refused (numbered 6 3))
     ∷ case (0x10000000 ∷ []) (refused (numbered 3 0))
+    ∷ case (sheetOf (lift 5 0 0 1 1 false ∷ lift 5 0 0 1 1 false ∷ [])) (refused (numbered 3 3))
     ∷ case (word endKind 1 ∷ word endKind 1 ∷ []) (refused (numbered 5 0))
     -- "Round 100 passes, 101 is 4."
     ∷ case (single mostRounds 1 mostRounds 1) (fits 1 1)
     ∷ case (single (mostRounds + 1) 1 1 1) (refused (numbered 4 1))
+    ∷ case (single 1 1 1 (largestSum + 1)) (refused (numbered 4 2))
     -- "Round 0 in an old place is a newcomer, in a new place a withdrawn lift, and its measure is then 0."
     ∷ case (single 3 1 0 0) (fits 1 0)
     ∷ case (single 3 1 0 1) (refused (numbered 4 2))
-    -- an old round without a held lift
-    ∷ case (sheetOf (lift 1 9 1 1 1 false ∷ [])) (refused (numbered 7 9))
+    -- "A held word with payload other than 0"
+    ∷ case (0x1000000B ∷ 0x20200001 ∷ 0x30200001 ∷ word heldKind 1 ∷ word endKind 1 ∷ []) (refused (numbered 6 3))
+    -- an old round without a held lift, one with two, one whose measures are all 0; the lowest round is the place
+    ∷ case (sheetOf (lift 1 9 1 1 1 false ∷ lift 2 8 1 1 1 false ∷ [])) (refused (numbered 7 8))
+    ∷ case (sheetOf (lift 1 9 1 1 1 true ∷ lift 2 9 1 1 1 true ∷ [])) (refused (numbered 7 9))
+    ∷ case (sheetOf (lift 1 9 0 1 1 false ∷ [])) (refused (numbered 7 9))
     -- "Sum 1,048,576 passes, 1,048,577 is 8."
     ∷ case (sums largestSum largestSum) (fits 2 1)
     ∷ case (sums (largestSum + 1) 1) (refused (numbered 8 1))
     ∷ case (sums 2 (largestSum + 1)) (refused (numbered 8 1))
     ∷ case (single 1 1 4 0) (refused (numbered 9 4))
+    -- "each over all rounds rising before the next", "old rounds tried first"
+    ∷ case (sheetOf (lift 1 1 largestSum 1 1 true ∷ lift 2 1 1 1 1 false ∷ lift 3 9 1 1 1 false ∷ [])) (refused (numbered 7 9))
+    ∷ case (sheetOf (lift 1 90 largestSum 1 largestSum true ∷ lift 2 90 1 1 1 false ∷ [])) (refused (numbered 8 90))
+    ∷ case (sheetOf (lift 1 0 0 9 largestSum false ∷ lift 2 0 0 9 1 false ∷ lift 3 0 0 1 0 false ∷ [])) (refused (numbered 8 9))
+    ∷ case (sheetOf (lift 1 1 1 1 1 true ∷ lift 2 2 1 1 1 true ∷ lift 3 3 1 1 1 true ∷ lift 4 0 0 9 0 false ∷ [])) (refused (numbered 9 9))
     -- "Two donors pass, three are 10."
     ∷ case (three 0) (fits 4 1)
     ∷ case (three 1) (refused (numbered 10 5))

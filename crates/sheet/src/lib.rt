@@ -9,7 +9,7 @@ ghost use Rattle.sheet.specs.Sheet.{longest, kind as kindOf, payload as 
 ghost use Rattle.sheet.specs.Reading.{next as nextOf, follows as followsOf, misnumbered as misnumberedOf, misplaced as misplacedOf, miscounted as miscountedOf, mismarked as mismarkedOf, fault, unless, sound, reading, Legible};
 ghost use Rattle.sheet.specs.Rounds.{rounds, placeAt, inUse};
 ghost use Rattle.sheet.specs.Refusal.{unheld, oversize, unmeasured, crowded, ofRounds, verdict, refusal, told, toldOfWords};
-ghost use Rattle.sheet.specs.Tables.{table, fieldOf, tallyOf, donorsOf, bitOf, below, ByRound, breaks as breaksOf, first as firstOf};
+ghost use Rattle.sheet.specs.Tables.{fieldOf, tallyOf, donorsOf, bitOf, startsOf, ByRound, breaks as breaksOf, first as firstOf};
 
 // A sheet that fits: how many lifts and how many new rounds it has.
 pub struct Sheet {
@@ -28,6 +28,12 @@ impl Sheet {
     // How many numbers a table by round has: rounds from 0 up.
     pub const TABLE: usize = Self::MOST_ROUNDS + 1;
 
+    // How many payloads there are, and how many measures.
+    const PAYLOADS: u32 = 0x1000_0000;
+
+    const MEASURES: u32 = 0x20_0000;
+
+    // The kinds.
     const LIFT: u32 = 1;
 
     const OLD: u32 = 2;
@@ -42,28 +48,28 @@ impl Sheet {
     pub fn kind(word: u32) -> u32
         ensures { λ r. ⌜ r ≡ kindOf word ⌝ }
     {
-        word / 0x1000_0000
+        word / Self::PAYLOADS
     }
 
     // A word's payload.
     pub fn payload(word: u32) -> u32
         ensures { λ r. ⌜ r ≡ payloadOf word ⌝ }
     {
-        word % 0x1000_0000
+        word % Self::PAYLOADS
     }
 
     // The round of a place.
     pub fn round(word: u32) -> usize
         ensures { λ r. ⌜ r ≡ placeOf word .round ⌝ }
     {
-        (word % 0x1000_0000 / 0x20_0000) as usize
+        (Self::payload(word) / Self::MEASURES) as usize
     }
 
     // The measure of a place.
     pub fn measure(word: u32) -> u64
         ensures { λ r. ⌜ r ≡ placeOf word .measure ⌝ }
     {
-        (word % 0x1000_0000 % 0x20_0000) as u64
+        (Self::payload(word) % Self::MEASURES) as u64
     }
 }
 
@@ -74,11 +80,11 @@ pub enum Refusal {
     Number(usize),
     Place(usize),
     Count(usize),
-    Mark(usize),
     Held(usize),
-    Sum(usize),
-    Empty(usize),
-    Donors(usize),
+    Unheld(usize),
+    Oversize(usize),
+    Unmeasured(usize),
+    Crowded(usize),
 }
 
 impl Refusal {
@@ -92,11 +98,11 @@ impl Refusal {
             Refusal::Number(_) => 3,
             Refusal::Place(_) => 4,
             Refusal::Count(_) => 5,
-            Refusal::Mark(_) => 6,
-            Refusal::Held(_) => 7,
-            Refusal::Sum(_) => 8,
-            Refusal::Empty(_) => 9,
-            Refusal::Donors(_) => 10,
+            Refusal::Held(_) => 6,
+            Refusal::Unheld(_) => 7,
+            Refusal::Oversize(_) => 8,
+            Refusal::Unmeasured(_) => 9,
+            Refusal::Crowded(_) => 10,
         }
     }
 
@@ -110,11 +116,11 @@ impl Refusal {
             Refusal::Number(i) => i,
             Refusal::Place(i) => i,
             Refusal::Count(i) => i,
-            Refusal::Mark(i) => i,
-            Refusal::Held(r) => r,
-            Refusal::Sum(r) => r,
-            Refusal::Empty(r) => r,
-            Refusal::Donors(r) => r,
+            Refusal::Held(i) => i,
+            Refusal::Unheld(r) => r,
+            Refusal::Oversize(r) => r,
+            Refusal::Unmeasured(r) => r,
+            Refusal::Crowded(r) => r,
         }
     }
 }
@@ -241,7 +247,7 @@ fn judge(s: Before, word: u32, i: usize) -> Judged
         return Judged::Faulty(Refusal::Count(i));
     }
     if mismarked(s, word) {
-        return Judged::Faulty(Refusal::Mark(i));
+        return Judged::Faulty(Refusal::Held(i));
     }
     Judged::Sound
 }
@@ -393,13 +399,13 @@ pub fn donors(sheet: &[u32], first: u64) -> [u64; Sheet::TABLE]
     words
 }
 
-// Where each new round begins when each round's lifts stand together.
-pub fn starts(sheet: &[u32]) -> [u64; Sheet::TABLE]
+// Where each new round begins when each round's lifts stand together, and where the last one ends.
+pub fn starts(sheet: &[u32]) -> [u64; Sheet::TABLE + 1]
     requires { ⌜ Legible (now sheet) ⌝ }
-    ensures { λ r. ⌜ r ≡ table (λ t. below t (lifts (now (sheet .entry)))) ⌝ }
+    ensures { λ r. ⌜ r ≡ startsOf (lifts (now (sheet .entry))) ⌝ }
 {
     let counts = tally(sheet, Side::New, Field::Unit);
-    let mut starts = [0u64; Sheet::TABLE];
+    let mut starts = [0u64; Sheet::TABLE + 1];
     let mut sum: u64 = 0;
     let mut r = 0;
     while r < Sheet::TABLE {
@@ -407,13 +413,14 @@ pub fn starts(sheet: &[u32]) -> [u64; Sheet::TABLE]
         sum += counts[r];
         r += 1;
     }
+    starts[r] = sum;
     starts
 }
 
 // A field of all lifts, each new round's together in lift order.
-pub fn by_round(sheet: &[u32], field: Field, starts: [u64; Sheet::TABLE], out: &mut [u64])
+pub fn by_round(sheet: &[u32], field: Field, starts: [u64; Sheet::TABLE + 1], out: &mut [u64])
     requires { ⌜ Legible (now sheet) ⌝ }
-    requires { ⌜ starts ≡ table (λ r. below r (lifts (now sheet))) ⌝ }
+    requires { ⌜ starts ≡ startsOf (lifts (now sheet)) ⌝ }
     requires { ⌜ length (now out) ≡ length (lifts (now sheet)) ⌝ }
     ensures { λ _. ⌜ ByRound (fieldOf field) (lifts (now (sheet .entry))) (now (out .exit)) ⌝ }
 {
@@ -458,7 +465,7 @@ fn first(rule: Rule, a: &[u64; Sheet::TABLE], b: &[u64; Sheet::TABLE]) -> Found
 }
 
 // 1 for a number above 0, else 0.
-fn some(n: u64) -> usize
+fn flag(n: u64) -> usize
     ensures { λ r. ⌜ r ≡ indicator (ltb 0 n) ⌝ }
 {
     if 0 < n {
@@ -476,7 +483,7 @@ fn in_use(sheet: &[u32]) -> usize
     let mut n = 0;
     let mut r = 1;
     while r <= Sheet::MOST_ROUNDS {
-        n += some(counts[r]);
+        n += flag(counts[r]);
         r += 1;
     }
     n
@@ -535,19 +542,19 @@ fn check_rounds(sheet: &[u32]) -> Checked
     ensures { λ r. ⌜ told r ≡ ofRounds (lifts (now (sheet .entry))) ⌝ }
 {
     if let Found::At(r) = find_unheld(sheet) {
-        return Checked::Refused(Refusal::Held(r));
+        return Checked::Refused(Refusal::Unheld(r));
     }
     if let Found::At(r) = find_oversize(sheet, Side::Old) {
-        return Checked::Refused(Refusal::Sum(r));
+        return Checked::Refused(Refusal::Oversize(r));
     }
     if let Found::At(r) = find_oversize(sheet, Side::New) {
-        return Checked::Refused(Refusal::Sum(r));
+        return Checked::Refused(Refusal::Oversize(r));
     }
     if let Found::At(r) = find_unmeasured(sheet) {
-        return Checked::Refused(Refusal::Empty(r));
+        return Checked::Refused(Refusal::Unmeasured(r));
     }
     if let Found::At(r) = find_crowded(sheet) {
-        return Checked::Refused(Refusal::Donors(r));
+        return Checked::Refused(Refusal::Crowded(r));
     }
     Checked::Fits(Sheet {
         lifts: size(sheet),

@@ -7,13 +7,13 @@ use Rattle.sheet.specs.Sheet.{mostRounds}
 use Rattle.sheet.specs.Tables.{fieldOf}
 use Rattle.sheet.specs.declared.Side.the-variants.{New}
 use Rattle.sheet.proofs.Walks.{Turn, turn, inside, round-lt, moved}
-use Rattle.sheet.proofs.Placing.{Placed, placed-none, placed-lt, placed-turn, placed-end, lifts-le}
+use Rattle.sheet.proofs.Placing.{Stored, stored-none, stored-lt, stored-turn, stored-end, lifts-le}
 use borrow.Author.Needs.{needs}
 use Rattle.sheet.proofs.by_round.Statement.{statement}
 use Rattle.sheet.proofs.by_round.Tie as tie
 
 abbrev Inv-loop : tie.InvT-loop
-Inv-loop sheet field out₀ free₀ i₀ out free i = Placed (fieldOf field) sheet free out i
+Inv-loop sheet field out₀ free₀ i₀ out free i = Stored (fieldOf field) sheet free out i
 
 abbrev μ-loop : tie.MeasureT-loop
 μ-loop sheet field out₀ free₀ i₀ out free i = length sheet - i
@@ -27,7 +27,7 @@ key : (c : tie.After-value Inv-loop μ-loop) → c .value .result < mostRounds +
 key c = round-lt New (lift (c .before)) (c .value .ensures)
 
 free : (c : tie.After-value Inv-loop μ-loop) → getD (c .before .before .loop .free) (c .value .result) 0 < length (c .before .before .loop .out)
-free c = placed-lt (c .before .before .loop .inv) (c .before .loop-test .taken) (c .value .ensures) (key c)
+free c = stored-lt (c .before .before .loop .inv) (c .before .loop-test .taken) (c .value .ensures) (key c)
 
 -- the next position
 further : (c : tie.After-marks Inv-loop μ-loop)
@@ -36,7 +36,7 @@ further c = moved (lift (c .before .before .before)) (c .marks .ensures)
 
 loop-holds : tie.Need-loop-holds Inv-loop μ-loop
 loop-holds c =
-    let p = c .before .before .pre in placed-none (fieldOf (c .before .before .args .field)) (p .0) (p .1 .0) (p .1 .1)
+    let p = c .before .before .pre in stored-none (fieldOf (c .before .before .args .field)) (p .0) (p .1 .0) (p .1 .1)
 
 add-loop : tie.Need-add-loop Inv-loop μ-loop
 add-loop c = omega (arith, inside (c .loop .inv .between), c .before .before .before .pre .0 .short)
@@ -48,7 +48,7 @@ mul-at : tie.Need-mul-at Inv-loop μ-loop
 mul-at c = omega (arith, key c)
 
 array-read-at : tie.Need-array-read-at Inv-loop μ-loop
-array-read-at c = key c
+array-read-at c = omega (arith, key c)
 
 value-requires-2 : tie.Need-value-requires-2 Inv-loop μ-loop
 value-requires-2 c κs = lift (c .before) .room
@@ -68,7 +68,7 @@ mul-free : tie.Need-mul-free Inv-loop μ-loop
 mul-free c = omega (arith, key (c .before))
 
 array-write-free : tie.Need-array-write-free Inv-loop μ-loop
-array-write-free c = key (c .before)
+array-write-free c = omega (arith, key (c .before))
 
 marks-requires : tie.Need-marks-requires Inv-loop μ-loop
 marks-requires c κs = lift (c .before .before) .room
@@ -84,14 +84,14 @@ loop-less c = omega (arith, further c)
 
 loop-again : tie.Need-loop-again Inv-loop μ-loop
 loop-again c =
-    placed-turn (c .before .before .before .before .loop .inv) (c .before .before .before .loop-test .taken) (c .before .before .value .ensures) (key (c .before .before))
+    stored-turn (c .before .before .before .before .loop .inv) (c .before .before .before .loop-test .taken) (c .before .before .value .ensures) (key (c .before .before))
     (c .before .value2 .ensures) (c .marks .ensures) refl refl
 
 same-length : tie.Need-same-length Inv-loop μ-loop
 same-length c = search needs
 
 returns : tie.Need-returns Inv-loop μ-loop
-returns c = placed-end (c .before .loop .inv) (c .loop-test .left)
+returns c = stored-end (c .before .loop .inv) (c .loop-test .left)
 
 pub by-round-spec : {M : Type 1} → statement M
 by-round-spec =

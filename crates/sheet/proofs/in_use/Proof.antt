@@ -22,17 +22,17 @@ tally-requires c κs = search needs
 loop-holds : tie.Need-loop-holds Inv-loop μ-loop
 loop-holds c = counted-none _
 
-mul-some : tie.Need-mul-some Inv-loop μ-loop
-mul-some c = search needs
+mul-flag : tie.Need-mul-flag Inv-loop μ-loop
+mul-flag c = search needs
 
-array-read-some : tie.Need-array-read-some Inv-loop μ-loop
-array-read-some c = search needs
+array-read-flag : tie.Need-array-read-flag Inv-loop μ-loop
+array-read-flag c = search needs
 
-some-requires : tie.Need-some-requires Inv-loop μ-loop
-some-requires c κs = search needs
+flag-requires : tie.Need-flag-requires Inv-loop μ-loop
+flag-requires c κs = search needs
 
 add-n : tie.Need-add-n Inv-loop μ-loop
-add-n c = omega (arith, counted-turn (c .before .loop-test .taken) (c .before .before .loop .inv) (c .some .ensures) .most, c .before .loop-test .taken)
+add-n c = omega (arith, counted-turn (c .before .loop-test .taken) (c .before .before .loop .inv) (c .flag .ensures) .most, c .before .loop-test .taken)
 
 add-r : tie.Need-add-r Inv-loop μ-loop
 add-r c = search needs
@@ -41,7 +41,7 @@ loop-less : tie.Need-loop-less Inv-loop μ-loop
 loop-less c = search needs
 
 loop-again : tie.Need-loop-again Inv-loop μ-loop
-loop-again c = counted-turn (c .before .loop-test .taken) (c .before .before .loop .inv) (c .some .ensures)
+loop-again c = counted-turn (c .before .loop-test .taken) (c .before .before .loop .inv) (c .flag .ensures)
 
 returns : tie.Need-returns Inv-loop μ-loop
 returns c = in-use (lifts (c .before .before .before .before .args .sheet .now)) (c .before .before .tally .ensures) (counted-end (c .loop-test .left) (c .before .loop .inv))
@@ -54,9 +54,9 @@ in-use-spec =
     μ-loop
     tally-requires
     loop-holds
-    mul-some
-    array-read-some
-    some-requires
+    mul-flag
+    array-read-flag
+    flag-requires
     add-n
     add-r
     loop-less

@@ -46,8 +46,14 @@ loop-less c = search needs
 loop-again : tie.Need-loop-again Inv-loop μ-loop
 loop-again c = running-turn (c .before .before .tally .ensures) (c .loop-test .taken) (c .before .loop .inv) refl
 
+mul-starts-2 : tie.Need-mul-starts-2 Inv-loop μ-loop
+mul-starts-2 c = omega (arith, c .before .loop .inv .most)
+
+array-write-starts-2 : tie.Need-array-write-starts-2 Inv-loop μ-loop
+array-write-starts-2 c = omega (arith, c .before .loop .inv .most)
+
 returns : tie.Need-returns Inv-loop μ-loop
-returns c = running-end (c .loop-test .left) (c .before .loop .inv)
+returns c = running-end (c .loop-test .left) (c .before .loop .inv) refl
 
 pub starts-spec : {M : Type 1} → statement M
 starts-spec =
@@ -65,4 +71,6 @@ starts-spec =
     add-r
     loop-less
     loop-again
+    mul-starts-2
+    array-write-starts-2
     returns)
