@@ -1,0 +1,128 @@
+-- Demand 3 from the theorems of one round: the mean over all initial selections is the mean over the round's held lifts.
+use Prim.Native.Nat.{ℕ, zero, suc, _+_, _*_, _≤_, _<_}
+use mathlib.Core.Path.{_≡_, refl, ap, _∙_}
+use mathlib.Core.Bool.{Bool, true, false, cond}
+use mathlib.Core.Logic.{⊎-elim}
+use mathlib.Core.List.{List, [], _∷_, map, List·Memᴰ, List·Memᴰ·not-nil, List·Memᴰ·cases-cons}
+use native.Mathlib.Nat.{mul-le-mul-right, le-of-mul-le-mul-right}
+use native.Mathlib.Omega.{arith}
+use lib.Dec.{ltb}
+use lib.ListN.{length, getD, length-map}
+use borrow.Author.Tests.{ltb-true}
+use Rattle.laws.specs.Fraction.{Fraction, _//_, _⊗_, _≈_, _≲_}
+use Rattle.laws.specs.Plan.{paths, weight}
+use Rattle.laws.proofs.Fractions.{≈-refl, ≈-sym, ≈-trans, ⊗-≈}
+use Rattle.round.specs.Round.{liftAt as roundLiftAt, U, weights}
+use Rattle.round.specs.Choice.{plan, isHeld}
+use Rattle.round.specs.Share.{chooses, share as roundShare}
+use Rattle.round.specs.Keep.{Coupling, tickets, keptTickets, kept as roundKept}
+use Rattle.round.specs.Slices.{lift}
+use Rattle.round.specs.declared.Held.{Held}
+use Rattle.round.specs.declared.Donors.the-variants.{One}
+use Rattle.round.proofs.Shares.{shares as round-shares}
+use Rattle.round.proofs.Keeping.{keeps as round-keeps}
+use Rattle.sheet.specs.Sheet.{mostRounds, Lift, lifts}
+use Rattle.sheet.specs.Rounds.{those, named, inUse, sumOf, donors, ofRound}
+use Rattle.sheet.specs.Law.{Fitting}
+use Rattle.sheet.specs.declared.Side.the-variants.{Old, New}
+use Rattle.panel.specs.Choice.{donorNumber, donorsOf, liftsOf, heldIn, planOf, nobody, liftAt}
+use Rattle.panel.specs.Initial.{marked}
+use Rattle.panel.specs.Fair.{share, kept, FairTheorem}
+use Rattle.panel.proofs.Marks.{donorsOf-marked, liftsOf-marked}
+use Rattle.panel.proofs.RoundsFit.{S-round, round-fits}
+use Rattle.panel.proofs.Weighing.{selections-ext, weight-ext, weight-den}
+use Rattle.panel.proofs.Following.{carries}
+use Rattle.panel.proofs.Selections.{transfer, whole}
+use Rattle.panel.proofs.MarkedFits.{marked-fits, flags}
+
+-- a round in use passes the test, within the bounds
+mem-those : (p : ℕ → Bool) (a n r : ℕ) → List·Memᴰ r (those p a n) → (p r ≡ true) × (a ≤ r) × (r < a + n)
+unfolding those
+mem-those p a zero r d = absurd (List·Memᴰ·not-nil d)
+mem-those p a (suc n) r d = go (p a) refl d (mem-those p (suc a) n r)
+  where
+    go : (t : Bool) → p a ≡ t → List·Memᴰ r (cond t (a ∷ those p (suc a) n) (those p (suc a) n))
+        → (List·Memᴰ r (those p (suc a) n) → (p r ≡ true) × (suc a ≤ r) × (r < suc a + n)) → (p r ≡ true) × (a ≤ r) × (r < a + suc n)
+    go true h k rest =
+        ⊎-elim (λ e. (ap p e ∙ h, omega arith, omega arith)) (λ e. let q = rest e in (q .0, omega (arith, q .1), omega (arith, q .2))) (List·Memᴰ·cases-cons k)
+    go false h k rest = let q = rest k in (q .0, omega (arith, q .1), omega (arith, q .2))
+
+-- the plan of a round of the lifts so marked
+plan-marked : (m : List Lift) (r : ℕ) (ls : List Lift) → planOf r (marked m ls) ≡ plan (donorsOf r ls) (liftsOf r ls) (heldIn r (marked m ls))
+unfolding planOf
+plan-marked m r ls = rw (donorsOf-marked m r ls, liftsOf-marked m r ls)
+
+length-lifts : (r : ℕ) (ls : List Lift) → length (liftsOf r ls) ≡ length (ofRound r ls)
+unfolding liftsOf
+length-lifts r ls = length-map (ofRound r ls) (λ l. lift (l .old .measure) (donorNumber (donors r ls) (l .old .round)) (l .new .measure))
+
+-- the lift at a place has the same new measure for the round
+new-at : (r : ℕ) (ls : List Lift) (j : ℕ) → roundLiftAt (liftsOf r ls) j .new ≡ liftAt r ls j .new .measure
+unfolding liftsOf liftAt
+new-at r ls j = go (ofRound r ls) j
+  where
+    go : (us : List Lift) (j : ℕ)
+        → roundLiftAt (map (λ l. lift (l .old .measure) (donorNumber (donors r ls) (l .old .round)) (l .new .measure)) us) j .new ≡ getD us j nobody .new .measure
+    go [] j = refl
+    go (u ∷ us) zero = refl
+    go (u ∷ us) (suc j) = go us j
+
+≲-≈ : {q r s : Fraction} → q ≲ r → r ≈ s → q ≲ s
+≲-≈ {q} {r} {s} h k =
+    record {
+      cross = le-of-mul-le-mul-right {k = r .den} (omega (arith, mul-le-mul-right (s .den) (h .cross), ap (λ t. t * q .den) (k .cross))) (h .right);
+      left = h .left;
+      right = k .right;
+    }
+
+module _ {ws : List ℕ} (f : Fitting ws) {r : ℕ} (low : 1 ≤ r) (high : r ≤ mostRounds) (some : 0 < named New r (lifts ws)) where
+  fair-shares : (j : ℕ) → j < length (ofRound r (lifts ws)) → share (lifts ws) r j ≈ liftAt r (lifts ws) j .new .measure // sumOf New r (lifts ws)
+  unfolding share roundShare
+  fair-shares j l =
+      let ls = lifts ws in
+      let F : Held → Fraction = λ h. weight (chooses j) (paths (plan (donorsOf r ls) (liftsOf r ls) h)) in
+      let e = selections-ext ls (λ ms. weight (chooses j) (paths (planOf r ms))) (λ ms. F (heldIn r ms)) (λ m d. ap (λ p. weight (chooses j) (paths p)) (plan-marked m r ls)) in
+      rw e
+      (≈-trans (transfer ws f r low high F (λ h. weight-den (chooses j) (plan (donorsOf r ls) (liftsOf r ls) h)))
+      (rw (← S-round f low high, ← new-at r ls j) (round-shares (donorsOf r ls) (liftsOf r ls) (round-fits f low high some) .shares j (rw (length-lifts r ls) l))))
+
+  kept-moved : kept (lifts ws) r ≈ roundKept (donorsOf r (lifts ws)) (liftsOf r (lifts ws))
+  unfolding kept roundKept
+  kept-moved =
+      let ls = lifts ws in
+      let F : Held → Fraction = λ h. weight (λ s. isHeld h (s .place)) (paths (plan (donorsOf r ls) (liftsOf r ls) h)) in
+      let e = selections-ext ls (λ ms. weight (λ s. liftAt r ms (s .place) .held) (paths (planOf r ms))) (λ ms. F (heldIn r ms))
+      (λ m d.
+      weight-ext (λ s. flags ws f m d r low high (s .place)) (paths (planOf r (marked m ls)))
+      ∙ ap (λ p. weight (λ s. isHeld (heldIn r (marked m ls)) (s .place)) (paths p)) (plan-marked m r ls)) in
+      rw e (transfer ws f r low high F (λ h. weight-den (λ s. isHeld h (s .place)) (plan (donorsOf r ls) (liftsOf r ls) h)))
+
+  one-donor : (t : ℕ) → donors r (lifts ws) ≡ t ∷ [] → donorsOf r (lifts ws) ≡ One (sumOf Old t (lifts ws))
+  unfolding donorsOf
+  one-donor t e = rw e
+
+  fair-keeps : (t : ℕ) → donors r (lifts ws) ≡ t ∷ [] → U 1 (liftsOf r (lifts ws)) ≡ sumOf Old t (lifts ws) → (times : ℕ) (grid : ℕ → ℕ → ℕ)
+      → Coupling (weights (donorsOf r (lifts ws)) (liftsOf r (lifts ws))) times grid
+      → keptTickets (length (ofRound r (lifts ws))) grid // 1 ≲ tickets (length (ofRound r (lifts ws))) grid // 1 ⊗ kept (lifts ws) r
+  fair-keeps t e u times grid c =
+      let ls = lifts ws in
+      let o = one-donor t e in
+      let k = round-keeps (sumOf Old t ls) (liftsOf r ls) (rw o at (round-fits f low high some)) u .most times grid (rw o at c) in
+      let m : kept ls r ≈ roundKept (One (sumOf Old t ls)) (liftsOf r ls) = rw o at kept-moved in
+      ≲-≈ (rw (length-lifts r ls) at k) (⊗-≈ (≈-refl (omega arith)) (≈-sym m))
+
+pub fair : FairTheorem
+fair ws f =
+    record {
+      rounds = λ r d.
+          let q = mem-those (λ r. ltb 0 (named New r (lifts ws))) 1 mostRounds r d in
+          let some = ltb-true 0 (named New r (lifts ws)) (q .0) in
+          let high : r ≤ mostRounds = omega (arith, q .2) in
+          record {
+            shares = fair-shares f (q .1) high some;
+            runs = λ m k p n words start next cs e c i er ev. carries (marked m (lifts ws)) words start (inUse New (marked m (lifts ws))) next cs e r p n c i er ev;
+            keeps = fair-keeps f (q .1) high some;
+          };
+      fits = marked-fits ws f;
+      whole = whole ws f;
+    }

@@ -1,0 +1,9 @@
+pub mod Marks
+pub mod Means
+pub mod Standing
+pub mod Selections
+pub mod MarkedFits
+pub mod RoundsFit
+pub mod Weighing
+pub mod Following
+pub mod Fair

@@ -1,0 +1,194 @@
+-- What a fitting sheet gives of each of its new rounds: the sums of the round and of its donors, and where held lifts stand.
+use Prim.Native.Nat.{ℕ, zero, suc, _+_, _-_, _≤_, _<_}
+use mathlib.Core.Path.{_≡_, refl, sym, ap, ap₂, _∙_}
+use mathlib.Core.Bool.{Bool, true, false, cond, _&&_, _||_, false≢true, true≢false}
+use mathlib.Core.List.{List, [], _∷_, map, nil≢cons}
+use native.Mathlib.Omega.{arith}
+use lib.Dec.{eqb, ltb}
+use lib.ListN.{length}
+use borrow.Author.Tests.{eq-eqb, ne-eqb, eqb-true, eqb-false, lt-ltb, ltb-true, ltb-false, leb-false}
+use Rattle.laws.specs.Sum.{total, totalBy}
+use Rattle.round.specs.Round.{Lift as RoundLift, S, U, Donate, Fitting as RoundFitting}
+use Rattle.round.specs.Slices.{lift, Bounded, SumsBounded}
+use Rattle.sheet.specs.Sheet.{mostRounds, largestSum, Lift, lifts}
+use Rattle.sheet.specs.Rounds.{those, named, sumOf, sends, donors, ofRound}
+use Rattle.sheet.specs.Law.{Fitting}
+use Rattle.sheet.specs.declared.Side.the-variants.{Old, New}
+use Rattle.panel.specs.Choice.{donorNumber, withSums, donorsOf, liftsOf}
+
+-- ---- the first of the numbers that pass a test
+
+pub record Head (p : ℕ → Bool) (a n d : ℕ) (ds : List ℕ) : Type 0 where
+  pub from : a ≤ d
+  pub upto : d < a + n
+  pub passes : p d ≡ true
+  pub rest : ds ≡ those p (suc d) (a + n - suc d)
+
+pub those-head : (p : ℕ → Bool) (a n d : ℕ) (ds : List ℕ) → those p a n ≡ d ∷ ds → Head p a n d ds
+unfolding those
+those-head p a zero d ds e = absurd (nil≢cons e)
+those-head p a (suc n) d ds e = go (p a) refl e (those-head p (suc a) n d ds)
+  where
+    go : (t : Bool) → p a ≡ t → cond t (a ∷ those p (suc a) n) (those p (suc a) n) ≡ d ∷ ds
+        → (those p (suc a) n ≡ d ∷ ds → Head p (suc a) n d ds) → Head p a (suc n) d ds
+    go true h q r =
+        let x : a ≡ d = cc in
+        let y : those p (suc a) n ≡ ds = cc in
+        let k : a + suc n - suc d ≡ n = omega arith in
+        record { from = omega arith; upto = omega arith; passes = ap p (sym x) ∙ h; rest = sym y ∙ rw (k, x) refl }
+    go false h q r =
+        let f = r q in
+        let k : suc a + n ≡ a + suc n = omega arith in
+        record { from = omega (arith, f .from); upto = omega (arith, f .upto); passes = f .passes; rest = f .rest ∙ ap (λ x. those p (suc d) (x - suc d)) k }
+
+-- ---- the sums of a round
+
+-- the round of a list of lifts, with donors numbered by g
+abbrev roundBy : (ℕ → ℕ) → ℕ → List Lift → List RoundLift
+roundBy g r ls = map (λ l. lift (l .old .measure) (g (l .old .round)) (l .new .measure)) (ofRound r ls)
+
+S-sum : (g : ℕ → ℕ) (r : ℕ) (ls : List Lift) → S (roundBy g r ls) ≡ sumOf New r ls
+unfolding S total totalBy ofRound
+S-sum g r [] = refl
+S-sum g r (l ∷ ls) = go (eqb (l .new .round) r) (S-sum g r ls)
+  where
+    go : (t : Bool) → S (roundBy g r ls) ≡ sumOf New r ls
+        → S (map (λ l. lift (l .old .measure) (g (l .old .round)) (l .new .measure)) (cond t (l ∷ ofRound r ls) (ofRound r ls))) ≡ cond t (l .new .measure) 0 + sumOf New r ls
+    go true e = ap (λ x. l .new .measure + x) e
+    go false e = omega arith
+
+-- what old round d sends to new round r
+sentTo : ℕ → ℕ → List Lift → ℕ
+sentTo d r [] = 0
+sentTo d r (l ∷ ls) = cond (eqb (l .new .round) r) (cond (eqb (l .old .round) d) (l .old .measure) 0) 0 + sentTo d r ls
+
+-- U of the donor numbered k is that, if g numbers old round d alone by k
+U-sum : (g : ℕ → ℕ) (k d : ℕ) → ((t : ℕ) → eqb (g t) k ≡ eqb t d) → (r : ℕ) (ls : List Lift) → U k (roundBy g r ls) ≡ sentTo d r ls
+unfolding U totalBy ofRound sentTo
+U-sum g k d h r [] = refl
+U-sum g k d h r (l ∷ ls) = go (eqb (l .new .round) r) (U-sum g k d h r ls)
+  where
+    go : (t : Bool) → U k (roundBy g r ls) ≡ sentTo d r ls
+        → U k (map (λ l. lift (l .old .measure) (g (l .old .round)) (l .new .measure)) (cond t (l ∷ ofRound r ls) (ofRound r ls))) ≡ cond t (cond (eqb (l .old .round) d) (l .old .measure) 0) 0 + sentTo d r ls
+    go true e = ap₂ (λ x y. cond x (l .old .measure) 0 + y) (h (l .old .round)) e
+    go false e = omega arith
+
+-- a part of the old sum
+sent-le : (d r : ℕ) (ls : List Lift) → sentTo d r ls ≤ sumOf Old d ls
+unfolding sentTo totalBy
+sent-le d r [] = omega arith
+sent-le d r (l ∷ ls) = go (eqb (l .new .round) r) (sent-le d r ls)
+  where
+    go : (t : Bool) → sentTo d r ls ≤ sumOf Old d ls
+        → cond t (cond (eqb (l .old .round) d) (l .old .measure) 0) 0 + sentTo d r ls ≤ cond (eqb (l .old .round) d) (l .old .measure) 0 + sumOf Old d ls
+    go true e = omega arith
+    go false e = omega arith
+
+-- above 0 for a donor
+sent-some : (d r : ℕ) (ls : List Lift) → sends d r ls ≡ true → 0 < sentTo d r ls
+unfolding sentTo sends
+sent-some d r [] e = absurd (false≢true e)
+sent-some d r (l ∷ ls) e = go (eqb (l .old .round) d) (eqb (l .new .round) r) (ltb 0 (l .old .measure)) refl e (sent-some d r ls)
+  where
+    go : (x y z : Bool) → ltb 0 (l .old .measure) ≡ z → (x && (y && z) || sends d r ls) ≡ true → (sends d r ls ≡ true → 0 < sentTo d r ls)
+        → 0 < cond y (cond x (l .old .measure) 0) 0 + sentTo d r ls
+    go true true true q e h = omega (arith, ltb-true 0 (l .old .measure) q)
+    go true true false q e h = omega (arith, h e)
+    go true false z q e h = omega (arith, h e)
+    go false y z q e h = omega (arith, h e)
+
+-- ---- donors
+
+eqb-sym : (a b : ℕ) → eqb a b ≡ eqb b a
+eqb-sym a b = go (eqb a b) refl
+  where
+    go : (t : Bool) → eqb a b ≡ t → t ≡ eqb b a
+    go true e = sym (eq-eqb b a (sym (eqb-true a b e)))
+    go false e = sym (ne-eqb b a (λ q. eqb-false a b e (sym q)))
+
+-- the first donor is numbered 1, and it alone
+number-first : (d : ℕ) (ds : List ℕ) (t : ℕ) → eqb (donorNumber (d ∷ ds) t) 1 ≡ eqb t d
+number-first d [] t = go (eqb d t) ∙ eqb-sym d t
+  where
+    go : (x : Bool) → eqb (cond x 1 0) 1 ≡ x
+    go true = refl
+    go false = refl
+number-first d (e ∷ ds) t = go (eqb d t) (eqb e t) ∙ eqb-sym d t
+  where
+    go : (x y : Bool) → eqb (cond x 1 (cond y 2 0)) 1 ≡ x
+    go true y = refl
+    go false true = refl
+    go false false = refl
+
+-- and the second 2
+number-second : (d e : ℕ) (ds : List ℕ) → d < e → (t : ℕ) → eqb (donorNumber (d ∷ e ∷ ds) t) 2 ≡ eqb t e
+number-second d e ds h t = go (eqb d t) (eqb e t) refl refl ∙ eqb-sym e t
+  where
+    go : (x y : Bool) → eqb d t ≡ x → eqb e t ≡ y → eqb (cond x 1 (cond y 2 0)) 2 ≡ y
+    go true true p q = absurd (omega (arith, eqb-true d t p, eqb-true e t q))
+    go true false p q = refl
+    go false true p q = refl
+    go false false p q = refl
+
+-- what is known of the donors of a round: none, one, or two in rising order
+pub data Senders (r : ℕ) (ls : List Lift) : List ℕ → Type 0 where
+  none : Senders r ls []
+  one : {d : ℕ} → sends d r ls ≡ true → 1 ≤ d → d ≤ mostRounds → Senders r ls (d ∷ [])
+  two : {d e : ℕ} → sends d r ls ≡ true → sends e r ls ≡ true → 1 ≤ d → d < e → e ≤ mostRounds → Senders r ls (d ∷ e ∷ [])
+
+module _ {ws : List ℕ} (f : Fitting ws) {r : ℕ} (low : 1 ≤ r) (high : r ≤ mostRounds) where
+  pub senders : Senders r (lifts ws) (donors r (lifts ws))
+  senders = go (donors r (lifts ws)) refl
+    where
+      p : ℕ → Bool
+      p t = sends t r (lifts ws)
+
+      go : (ds : List ℕ) → donors r (lifts ws) ≡ ds → Senders r (lifts ws) ds
+      go [] q = none
+      go (d ∷ []) q = let h = those-head p 1 mostRounds d [] q in one (h .passes) (h .from) (omega (arith, h .upto))
+      go (d ∷ e ∷ []) q =
+          let h = those-head p 1 mostRounds d (e ∷ []) q in
+          let k = those-head p (suc d) (1 + mostRounds - suc d) e [] (sym (h .rest)) in
+          two (h .passes) (k .passes) (h .from) (k .from) (omega (arith, h .upto, k .upto))
+      go (d ∷ e ∷ c ∷ ds) q = absurd (omega (arith, leb-false 3 (length (donors r (lifts ws))) (f .donors r low high), ap length q))
+
+  sum-new : sumOf New r (lifts ws) ≤ largestSum
+  sum-new = ltb-false largestSum (sumOf New r (lifts ws)) (f .new r low high)
+
+  sum-old : (d : ℕ) → 1 ≤ d → d ≤ mostRounds → sumOf Old d (lifts ws) ≤ largestSum
+  sum-old d l h = ltb-false largestSum (sumOf Old d (lifts ws)) (f .old d l h)
+
+  donated : (ds : List ℕ) → Senders r (lifts ws) ds → Donate (withSums ds (lifts ws)) (roundBy (donorNumber ds) r (lifts ws))
+  donated [] none = tt
+  donated (d ∷ []) (one s l h) =
+      let e = U-sum (donorNumber (d ∷ [])) 1 d (number-first d []) r (lifts ws) in
+      record { some = rw e (sent-some d r (lifts ws) s); part = rw e (sent-le d r (lifts ws)) }
+  donated (d ∷ c ∷ []) (two s t l m h) =
+      let e = U-sum (donorNumber (d ∷ c ∷ [])) 1 d (number-first d (c ∷ [])) r (lifts ws) in
+      let g = U-sum (donorNumber (d ∷ c ∷ [])) 2 c (number-second d c [] m) r (lifts ws) in
+      (record { some = rw e (sent-some d r (lifts ws) s); part = rw e (sent-le d r (lifts ws)) }, record { some = rw g (sent-some c r (lifts ws) t); part = rw g (sent-le c r (lifts ws)) })
+
+  limited : (ds : List ℕ) → Senders r (lifts ws) ds → SumsBounded (withSums ds (lifts ws))
+  limited [] none = tt
+  limited (d ∷ []) (one s l h) = sum-old d l h
+  limited (d ∷ c ∷ []) (two s t l m h) = (sum-old d l (omega arith), sum-old c (omega arith) h)
+
+  -- the round's own sum
+  pub S-round : S (liftsOf r (lifts ws)) ≡ sumOf New r (lifts ws)
+  unfolding liftsOf
+  S-round = S-sum (donorNumber (donors r (lifts ws))) r (lifts ws)
+
+  pub positive : 0 < named New r (lifts ws) → 0 < sumOf New r (lifts ws)
+  positive n = go (eqb (sumOf New r (lifts ws)) 0) refl
+    where
+      go : (t : Bool) → eqb (sumOf New r (lifts ws)) 0 ≡ t → 0 < sumOf New r (lifts ws)
+      go true e = absurd (true≢false (sym (ap₂ _&&_ (lt-ltb 0 (named New r (lifts ws)) n) e) ∙ f .measured r low high))
+      go false e = omega (arith, eqb-false (sumOf New r (lifts ws)) 0 e)
+
+  pub round-fits : 0 < named New r (lifts ws) → RoundFitting (donorsOf r (lifts ws)) (liftsOf r (lifts ws))
+  unfolding donorsOf liftsOf
+  round-fits n = record { positive = rw S-round (positive n); donate = donated (donors r (lifts ws)) senders }
+
+  pub round-bounded : Bounded (donorsOf r (lifts ws)) (liftsOf r (lifts ws))
+  unfolding donorsOf
+  round-bounded = record { new = rw S-round sum-new; old = limited (donors r (lifts ws)) senders }

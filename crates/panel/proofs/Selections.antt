@@ -1,0 +1,186 @@
+-- Of all initial selections a new round sees only the held lifts of its donors: the mean over all is that over these.
+use Prim.Native.Nat.{ℕ, zero, suc, _+_, _≤_, _<_}
+use mathlib.Core.Path.{_≡_, refl, sym, ap, _∙_}
+use mathlib.Core.Bool.{Bool, true, false, cond, _&&_, _||_, true≢false}
+use mathlib.Core.List.{List, [], _∷_, _++_}
+use native.Mathlib.Omega.{arith}
+use lib.Dec.{eqb, ltb, leb}
+use lib.ListN.{length}
+use borrow.Author.Tests.{eqb-true, eqb-false, eq-eqb, ne-eqb, leb-false, lt-ltb, not-false}
+use Rattle.laws.specs.Sum.{totalBy, indicator}
+use Rattle.laws.specs.Fraction.{Fraction, _//_, _≈_}
+use Rattle.laws.proofs.Fractions.{≈-refl, ≈-trans}
+use Rattle.round.specs.Share.{Initial, elsewhere, heldOf, overInitial, overHeld}
+use Rattle.round.specs.declared.Held.{Held}
+use Rattle.round.specs.declared.Held.the-variants.{Neither}
+use Rattle.round.proofs.Initials.{initial-den}
+use Rattle.sheet.specs.Sheet.{mostRounds, Lift, lifts}
+use Rattle.sheet.specs.Rounds.{those, named, sumOf, heldIn as heldCount, sends, donors, ofRound}
+use Rattle.sheet.specs.Law.{Listed, Fitting}
+use Rattle.sheet.specs.declared.Side.the-variants.{Old}
+use Rattle.sheet.proofs.Searches.{those-none}
+use Rattle.sheet.proofs.Trips.{read-theorem}
+use Rattle.panel.specs.Choice.{donorNumber, withSums, donorsOf, liftsOf, heldAt, heldAmong, heldIn}
+use Rattle.panel.specs.Initial.{marked, odds, overSelections}
+use Rattle.panel.proofs.Marks.{sends-marked, ofRound-marked}
+use Rattle.panel.proofs.Means.{nth, mean, mean-≈, mean-den, means, Unseen, reduced}
+use Rattle.panel.proofs.Standing.{numbered-once, heldAt-drop, stands, keyed, sorted}
+
+-- ---- the rounds of a sheet
+
+-- an old round holds no more lifts than it measures
+held-measured : (n : ℕ) (ls : List Lift) → Listed n ls → (t : ℕ) → heldCount t ls ≤ sumOf Old t ls
+unfolding totalBy Listed
+held-measured n [] d t = omega arith
+held-measured n (l ∷ ls) d t = omega (arith, one (eqb (l .old .round) t) (l .held) refl, held-measured (l .number) ls (d .1) t)
+  where
+    one : (x y : Bool) → l .held ≡ y → cond x (indicator y) 0 ≤ cond x (l .old .measure) 0
+    one true true e = d .0 .held e
+    one true false e = omega arith
+    one false y e = omega arith
+
+-- a donor is an old round in use
+sends-named : (t r : ℕ) (ls : List Lift) → sends t r ls ≡ true → 0 < named Old t ls
+unfolding sends totalBy
+sends-named t r [] h = absurd (true≢false (sym h))
+sends-named t r (l ∷ ls) h = go (eqb (l .old .round) t) h (sends-named t r ls)
+  where
+    go : (x : Bool) → (x && (eqb (l .new .round) r && ltb 0 (l .old .measure)) || sends t r ls) ≡ true → (sends t r ls ≡ true → 0 < named Old t ls)
+        → 0 < cond x 1 0 + named Old t ls
+    go true e k = omega arith
+    go false e k = omega (arith, k e)
+
+-- numbers from a up, rising, each with a property
+abbrev Rising : (ℕ → Type 0) → ℕ → List ℕ → Type 0
+Rising P a [] = Unit {0}
+Rising P a (d ∷ ds) = (a ≤ d) × P d × Rising P (suc d) ds
+
+those-rise : (P : ℕ → Type 0) (q : ℕ → Bool) (a n : ℕ) → ((t : ℕ) → a ≤ t → t < a + n → q t ≡ true → P t) → Rising P a (those q a n)
+unfolding those
+those-rise P q a zero h = tt
+those-rise P q a (suc n) h = go (q a) refl (those-rise P q (suc a) n (λ t l m. h t (omega arith) (omega arith)))
+  where
+    lower : (ds : List ℕ) → Rising P (suc a) ds → Rising P a ds
+    lower [] x = tt
+    lower (d ∷ ds) x = (omega (arith, x .0), x .1, x .2)
+
+    go : (x : Bool) → q a ≡ x → Rising P (suc a) (those q (suc a) n) → Rising P a (cond x (a ∷ those q (suc a) n) (those q (suc a) n))
+    go true e k = (omega arith, h a (omega arith) (omega arith) e, k)
+    go false e k = lower (those q (suc a) n) k
+
+-- ---- the donors alone
+
+eqb-comm : (a b : ℕ) → eqb a b ≡ eqb b a
+eqb-comm a b = go (eqb b a) refl
+  where
+    go : (x : Bool) → eqb b a ≡ x → eqb a b ≡ x
+    go true e = eq-eqb a b (sym (eqb-true b a e))
+    go false e = ne-eqb a b (λ z. eqb-false b a e (sym z))
+
+-- donor 1 is the first alone, donor 2 the second
+only : (d s : ℕ) → eqb (donorNumber (d ∷ []) s) 1 ≡ eqb s d
+only d s = go (eqb d s) ∙ eqb-comm d s
+  where
+    go : (x : Bool) → eqb (cond x 1 0) 1 ≡ x
+    go true = refl
+    go false = refl
+
+first : (d e s : ℕ) → eqb (donorNumber (d ∷ e ∷ []) s) 1 ≡ eqb s d
+first d e s = go (eqb d s) (eqb e s) ∙ eqb-comm d s
+  where
+    go : (x y : Bool) → eqb (cond x 1 (cond y 2 0)) 1 ≡ x
+    go true y = refl
+    go false true = refl
+    go false false = refl
+
+second : (d e s : ℕ) → d < e → eqb (donorNumber (d ∷ e ∷ []) s) 2 ≡ eqb s e
+second d e s h = go (eqb d s) (eqb e s) refl refl ∙ eqb-comm e s
+  where
+    go : (x y : Bool) → eqb d s ≡ x → eqb e s ≡ y → eqb (cond x 1 (cond y 2 0)) 2 ≡ y
+    go true true a b = absurd (omega (arith, eqb-true d s a, eqb-true e s b))
+    go true false a b = refl
+    go false true a b = refl
+    go false false a b = refl
+
+-- a donor, of a sum above 0
+abbrev Donor : ℕ → List Lift → ℕ → Type 0
+Donor r ls d = (sends d r ls ≡ true) × (0 < sumOf Old d ls)
+
+module _ (n : ℕ) (ls : List Lift) (l : Listed n ls) (r : ℕ) (f : Held → Fraction) (u : (h : Held) → 0 < f h .den) where
+  -- a lift of another old round than d can be left out
+  other : (i : ℕ) → i < length ls → (d : ℕ) → (nth ls i .old .round ≡ d → ⊥) → (k m : List Lift)
+      → heldAt d (marked (k ++ nth ls i ∷ m) (ofRound r ls)) ≡ heldAt d (marked (k ++ m) (ofRound r ls))
+  other i b d h k m = heldAt-drop d r k m (nth ls i) ls (λ j c e z. h (ap (λ y. y .old .round) (numbered-once n ls l i j b c e) ∙ z))
+
+  -- the held lifts of the donors don't depend on the other old rounds
+  donors-seen : (a : ℕ) (ds : List ℕ) → Rising (Donor r ls) a ds → Unseen (λ t. sends t r ls) ls (λ m. f (heldAmong ds (marked m (ofRound r ls))))
+  donors-seen a ds s k m i b e = ap f (go ds s)
+    where
+      without : (d : ℕ) → sends d r ls ≡ true → heldAt d (marked (k ++ nth ls i ∷ m) (ofRound r ls)) ≡ heldAt d (marked (k ++ m) (ofRound r ls))
+      without d h = other i b d (λ z. true≢false (sym h ∙ ap (λ t. sends t r ls) (sym z) ∙ e)) k m
+
+      go : (ds : List ℕ) → Rising (Donor r ls) a ds → heldAmong ds (marked (k ++ nth ls i ∷ m) (ofRound r ls)) ≡ heldAmong ds (marked (k ++ m) (ofRound r ls))
+      go [] s = refl
+      go (d ∷ []) s = rw (without d (s .1 .0))
+      go (d ∷ e ∷ ds) s = rw (without d (s .1 .0), without e (s .2 .1 .0))
+
+  -- the mean over at most two donors
+  donors-mean : (a : ℕ) (ds : List ℕ) → Rising (Donor r ls) a ds → leb 3 (length ds) ≡ false
+      → means ds ls (λ m. f (heldAmong ds (marked m (ofRound r ls)))) ≈ overHeld (withSums ds ls) (keyed (donorNumber ds) (ofRound r ls)) f
+  unfolding means overHeld overInitial
+  donors-mean a [] s c = ≈-refl (u Neither)
+  donors-mean a (d ∷ []) s c = sorted d r 1 (donorNumber (d ∷ [])) (only d) (sumOf Old d ls) (s .1 .1) n ls l (λ x. f (heldOf x elsewhere)) (λ x. u (heldOf x elsewhere))
+  donors-mean a (d ∷ e ∷ []) s c =
+      let T₁ = sumOf Old d ls in
+      let T₂ = sumOf Old e ls in
+      let p₁ : 0 < T₁ = s .1 .1 in
+      let p₂ : 0 < T₂ = s .2 .1 .1 in
+      let key : ℕ → ℕ = donorNumber (d ∷ e ∷ []) in
+      let us : List Lift = ofRound r ls in
+      let inner : Initial → Fraction = λ x. overInitial 2 T₂ (keyed key us) (λ y. f (heldOf x y)) in
+      let w : (x : Initial) → 0 < inner x .den = λ x. initial-den 2 T₂ (keyed key us) (λ y. f (heldOf x y)) p₂ (λ y. u (heldOf x y)) in
+      let both : Lift → Lift → Fraction = λ x y. f (heldAmong (d ∷ e ∷ []) (marked (x ∷ y ∷ []) us)) in
+      let apart : (i : ℕ) → i < length ls → nth ls i .old .round ≡ d → (j : ℕ) → j < length ls → nth ls j .old .round ≡ e
+      → both (nth ls i) (nth ls j) ≈ f (heldOf (stands d (nth ls i) us) (stands e (nth ls j) us))
+      = λ i b v j c z.
+      rw (other j c d (λ y. omega (arith, s .2 .0)) (nth ls i ∷ []) [], other i b e (λ y. omega (arith, s .2 .0)) [] (nth ls j ∷ [])) (≈-refl (u _)) in
+      ≈-trans
+      (mean-≈ d T₁ p₁ ls (λ x. mean e T₂ ls (both x)) (λ x. inner (stands d x us)) (λ x. mean-den e T₂ p₂ ls (both x) (λ y. u _)) (λ x. w (stands d x us))
+      (λ i b v.
+      let x = stands d (nth ls i) us in
+      ≈-trans (mean-≈ e T₂ p₂ ls (both (nth ls i)) (λ y. f (heldOf x (stands e y us))) (λ y. u _) (λ y. u (heldOf x (stands e y us))) (apart i b v))
+      (sorted e r 2 key (λ k. second d e k (s .2 .0)) T₂ p₂ n ls l (λ y. f (heldOf x y)) (λ y. u (heldOf x y)))))
+      (sorted d r 1 key (first d e) T₁ p₁ n ls l inner w)
+  donors-mean a (d ∷ e ∷ g ∷ ds) s c = absurd (omega (arith, leb-false 3 (length (d ∷ e ∷ g ∷ ds)) c))
+
+-- an old round of a fitting sheet has a sum above 0
+measured : (ws : List ℕ) → Fitting ws → (t : ℕ) → 1 ≤ t → t < 1 + mostRounds → ltb 0 (named Old t (lifts ws)) ≡ true → 0 < sumOf Old t (lifts ws)
+measured ws f t a b e =
+    let h : heldCount t (lifts ws) ≡ 1 = eqb-true (heldCount t (lifts ws)) 1 (not-false _ (rw e at (f .held t a (omega arith)))) in
+    omega (arith, held-measured 0 (lifts ws) (read-theorem ws (f .words) .listable .listed) t)
+
+-- ---- what is shown
+
+-- the mean over all initial selections of what looks only at the held lifts of a round is that over its donors' alone
+pub transfer : (ws : List ℕ) → Fitting ws → (r : ℕ) → 1 ≤ r → r ≤ mostRounds → (F : Held → Fraction) → ((h : Held) → 0 < F h .den)
+    → overSelections (lifts ws) (λ ms. F (heldIn r ms)) ≈ overHeld (donorsOf r (lifts ws)) (liftsOf r (lifts ws)) F
+unfolding overSelections odds heldIn donorsOf liftsOf
+transfer ws f r a b F u =
+    let ls = lifts ws in
+    let l = read-theorem ws (f .words) .listable .listed in
+    let h : (t : ℕ) → sends t r ls ≡ true → ltb 0 (named Old t ls) ≡ true = λ t e. lt-ltb 0 (named Old t ls) (sends-named t r ls e) in
+    let ds = donors r ls in
+    let s = those-rise (Donor r ls) (λ t. sends t r ls) 1 mostRounds (λ t a b e. (e, measured ws f t a b (h t e))) in
+    let g : List Lift → Fraction = λ m. F (heldAmong ds (marked m (ofRound r ls))) in
+    simp (sends-marked, ofRound-marked)
+    (≈-trans
+    (reduced ls (λ t. ltb 0 (named Old t ls)) (λ t. sends t r ls) h 1 mostRounds (measured ws f) g (λ m. u _) (donors-seen 0 ls l r F u 1 ds s))
+    (donors-mean 0 ls l r F u 1 ds s (f .donors r a b)))
+
+-- all initial selections weigh 1 together
+pub whole : (ws : List ℕ) → Fitting ws → overSelections (lifts ws) (λ _. 1 // 1) ≈ 1 // 1
+unfolding overSelections odds means
+whole ws f =
+    let none : (t : ℕ) → false ≡ true → ltb 0 (named Old t (lifts ws)) ≡ true = λ t e. absurd (true≢false (sym e)) in
+    rw (those-none (λ _. false) 1 mostRounds (λ _ _ _. refl)) at
+    (reduced (lifts ws) (λ t. ltb 0 (named Old t (lifts ws))) (λ _. false) none 1 mostRounds (measured ws f) (λ _. 1 // 1) (λ _. omega arith) (λ k m i b e. refl))

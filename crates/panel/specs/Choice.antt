@@ -1,0 +1,159 @@
+-- The whole choice: each new round of a sheet by "One round" of document 01, "in rising order, each reading on where the one before
+-- stopped".
+use Prim.Native.Nat.{ℕ, suc, _+_, _*_, _-_, _^_}
+use mathlib.Core.Bool.{cond, _&&_, false}
+use mathlib.Core.List.{List, [], _∷_, _++_, map}
+use lib.Dec.{eqb, ltb}
+use lib.ListN.{length, getD, drop}
+use Rattle.laws.specs.Plan.{Plan}
+use Rattle.draw.specs.Draw.{largest}
+use Rattle.draw.specs.Run.{Run, finished, short as ended, run}
+use Rattle.round.specs.Round.{Lift as RoundLift}
+use Rattle.round.specs.Slices.{lift}
+use Rattle.round.specs.Choice.{Selection, plan, outcome}
+use Rattle.round.specs.Share.{Initial, here, elsewhere, heldOf}
+use Rattle.round.specs.declared.Donors.{Donors}
+use Rattle.round.specs.declared.Donors.the-variants.{None, One, Two}
+use Rattle.round.specs.declared.Held.{Held}
+use Rattle.round.specs.declared.Held.the-variants.{Neither}
+use Rattle.sheet.specs.Sheet.{Lift, lifts, word}
+use Rattle.sheet.specs.Reading.{Numbered, numbered}
+use Rattle.sheet.specs.Rounds.{inUse, sumOf, donors, ofRound}
+use Rattle.sheet.specs.Refusal.{Verdict, refused, fits, verdict}
+use Rattle.sheet.specs.declared.Side.the-variants.{Old, New}
+
+-- ---- one round of a sheet
+
+-- 1 for the first of some donors, 2 for the second, 0 for another old round: "The lower-numbered donor is donor 1."
+abbrev pub donorNumber : List ℕ → ℕ → ℕ
+donorNumber [] t = 0
+donorNumber (d ∷ []) t = cond (eqb d t) 1 0
+donorNumber (d ∷ e ∷ ds) t = cond (eqb d t) 1 (cond (eqb e t) 2 0)
+
+-- donors with their whole old sums: "T is the donor's whole old sum, lifts gone elsewhere included."
+abbrev pub withSums : List ℕ → List Lift → Donors
+withSums [] ls = None
+withSums (d ∷ []) ls = One (sumOf Old d ls)
+withSums (d ∷ e ∷ ds) ls = Two (sumOf Old d ls) (sumOf Old e ls)
+
+-- the donors of new round r
+unfoldable pub donorsOf : ℕ → List Lift → Donors
+donorsOf r ls = withSums (donors r ls) ls
+
+-- the lifts of new round r, with their old and new measures and their donors
+unfoldable pub liftsOf : ℕ → List Lift → List RoundLift
+liftsOf r ls = map (λ l. lift (l .old .measure) (donorNumber (donors r ls) (l .old .round)) (l .new .measure)) (ofRound r ls)
+
+-- one place further
+abbrev pub further : Initial → Initial
+further (here i) = here (suc i)
+further elsewhere = elsewhere
+
+-- where the held lift of old round t stands among some lifts
+unfoldable pub heldAt : ℕ → List Lift → Initial
+heldAt t [] = elsewhere
+heldAt t (l ∷ ls) = cond (l .held && eqb (l .old .round) t) (here 0) (further (heldAt t ls))
+
+-- where the held lifts of some donors stand among some lifts
+abbrev pub heldAmong : List ℕ → List Lift → Held
+heldAmong [] ls = Neither
+heldAmong (d ∷ []) ls = heldOf (heldAt d ls) elsewhere
+heldAmong (d ∷ e ∷ ds) ls = heldOf (heldAt d ls) (heldAt e ls)
+
+-- the held lifts in new round r
+unfoldable pub heldIn : ℕ → List Lift → Held
+heldIn r ls = heldAmong (donors r ls) (ofRound r ls)
+
+-- the choice of new round r: "What it chooses depends only on its own lifts, its donors' sums and held lifts, and the chance words"
+unfoldable pub planOf : ℕ → List Lift → Plan Selection
+planOf r ls = plan (donorsOf r ls) (liftsOf r ls) (heldIn r ls)
+
+-- the lift at a place of new round r
+abbrev pub nobody : Lift
+nobody = record { number = 0; old = record { round = 0; measure = 0 }; new = record { round = 0; measure = 0 }; held = false }
+
+unfoldable pub liftAt : ℕ → List Lift → ℕ → Lift
+liftAt r ls i = getD (ofRound r ls) i nobody
+
+-- ---- all rounds
+
+-- what was chosen in a round: the lift's number, the outcome, and the values drawn
+pub record Choice : Type 0 where
+  pub round : ℕ
+  pub number : ℕ
+  pub outcome : ℕ
+  pub values : List ℕ
+
+-- the choices of all rounds and the next position; or the round in which the words ended
+pub data Panel : Type 0 where
+  chosen : List Choice → ℕ → Panel
+  short : ℕ → Panel
+
+-- with one choice before them
+abbrev pub preceded : Choice → Panel → Panel
+preceded c (chosen cs next) = chosen (c ∷ cs) next
+preceded c (short r) = short r
+
+-- after the run of a round, the rounds behind it
+abbrev pub andThen : ℕ → List Lift → Run Selection → (ℕ → Panel) → Panel
+andThen r ls (finished vs s next) k =
+    preceded (record { round = r; number = liftAt r ls (s .place) .number; outcome = outcome (heldIn r ls) s; values = vs }) (k next)
+andThen r ls ended k = short r
+
+-- "New rounds that some lift names are done in rising order, each reading on where the one before stopped."
+unfoldable pub panelFrom : List Lift → List ℕ → ℕ → List ℕ → Panel
+panelFrom ls ws from [] = chosen [] from
+panelFrom ls ws from (r ∷ rs) = andThen r ls (run largest ws from (planOf r ls)) (λ next. panelFrom ls ws next rs)
+
+abbrev pub panel : List Lift → List ℕ → ℕ → Panel
+panel ls ws start = panelFrom ls ws start (inUse New ls)
+
+-- ---- the reply and the output
+
+-- a refusal by its number and place, or how many choices and how many words were read
+pub data Reply : Type 0 where
+  refusal : Numbered → Reply
+  replied : (choices words : ℕ) → Reply
+
+-- "13. The chance words end before a needed draw is finished. Place: the new round."
+abbrev pub ofPanel : ℕ → Panel → Reply
+ofPanel start (chosen cs next) = replied (length cs) (next - start)
+ofPanel start (short r) = refusal (numbered 13 r)
+
+-- "11. Start position above the number of chance words. Place: the start."
+-- "12. Output shorter than the choices need. Place: the words needed."
+abbrev pub ofLent : List Lift → ℕ → List ℕ → ℕ → ℕ → Reply
+ofLent ls rounds ws start room =
+    cond (ltb (length ws) start) (refusal (numbered 11 start))
+    (cond (ltb room (2 * rounds)) (refusal (numbered 12 (2 * rounds)))
+    (ofPanel start (panel ls ws start)))
+
+abbrev pub ofVerdict : Verdict → List Lift → List ℕ → ℕ → ℕ → Reply
+ofVerdict (refused x) ls ws start room = refusal x
+ofVerdict (fits n k) ls ws start room = ofLent ls k ws start room
+
+-- the reply to a sheet, random words, a start position and an output of so many words
+unfoldable pub reply : List ℕ → List ℕ → ℕ → ℕ → Reply
+reply sheet ws start room = ofVerdict (verdict sheet) (lifts sheet) ws start room
+
+-- "kind 5 (upper 7 bits round, lower 21 outcome), kind 6 (lift number)"
+abbrev pub pairOf : Choice → List ℕ
+pairOf c = word 5 (c .round * 2 ^ 21 + c .outcome) ∷ word 6 (c .number) ∷ []
+
+-- "Each round's pair is written to its own part of the output; words behind the last pair keep what they had."
+unfoldable pub written : List Choice → List ℕ → List ℕ
+written [] out = out
+written (c ∷ cs) out = pairOf c ++ written cs (drop 2 out)
+
+abbrev pub writtenOf : Panel → List ℕ → List ℕ
+writtenOf (chosen cs next) out = written cs out
+writtenOf (short r) out = out
+
+-- "A refusal replies number, place and 0 words read, and changes nothing lent."
+abbrev pub unlessRefused : Reply → List ℕ → List ℕ → List ℕ
+unlessRefused (refusal x) out new = out
+unlessRefused (replied n k) out new = new
+
+-- the output after the call
+unfoldable pub output : List ℕ → List ℕ → ℕ → List ℕ → List ℕ
+output sheet ws start out = unlessRefused (reply sheet ws start (length out)) out (writtenOf (panel (lifts sheet) ws start) out)

@@ -1,0 +1,60 @@
+-- Initial selections (the document's markings): "A marking names one lift of old measure above 0 in each old round as held; all else
+-- in the sheet stays."
+use Prim.Native.Nat.{ℕ, _*_}
+use mathlib.Core.Bool.{Bool, false, cond, _&&_, _||_}
+use mathlib.Core.List.{List, [], _∷_, _++_, map}
+use lib.Dec.{eqb, ltb}
+use Rattle.laws.specs.Fraction.{Fraction, _//_, _⊕_, _⊗_}
+use Rattle.sheet.specs.Sheet.{Lift}
+use Rattle.sheet.specs.Rounds.{inUse, sumOf}
+use Rattle.sheet.specs.declared.Side.the-variants.{Old}
+
+-- the lifts of old round t that can be held: of old measure above 0
+unfoldable pub eligible : ℕ → List Lift → List Lift
+eligible t [] = []
+eligible t (l ∷ ls) = cond (eqb (l .old .round) t && ltb 0 (l .old .measure)) (l ∷ eligible t ls) (eligible t ls)
+
+-- each of some lifts before each of some selections
+unfoldable pub each : List Lift → List (List Lift) → List (List Lift)
+each [] ms = []
+each (l ∷ ls) ms = map (λ m. l ∷ m) ms ++ each ls ms
+
+-- one eligible lift for each of some old rounds
+unfoldable pub selectionsFrom : List ℕ → List Lift → List (List Lift)
+selectionsFrom [] ls = [] ∷ []
+selectionsFrom (t ∷ ts) ls = each (eligible t ls) (selectionsFrom ts ls)
+
+-- all initial selections of a sheet: one lift in each old round
+abbrev pub selections : List Lift → List (List Lift)
+selections ls = selectionsFrom (inUse Old ls) ls
+
+-- whether a selection names the lift of a number
+unfoldable pub names : List Lift → ℕ → Bool
+names [] n = false
+names (l ∷ m) n = eqb (l .number) n || names m n
+
+-- the lift held where the selection names it, all else as it was
+abbrev pub holding : List Lift → Lift → Lift
+holding m l = record { number = l .number; old = l .old; new = l .new; held = names m (l .number) }
+
+-- the sheet's lifts so marked
+unfoldable pub marked : List Lift → List Lift → List Lift
+marked m ls = map (holding m) ls
+
+-- the product of a list
+unfoldable pub product : List ℕ → ℕ
+product [] = 1
+product (n ∷ ns) = n * product ns
+
+-- "the product of the held lifts' old measures over the product of all old sums"
+unfoldable pub odds : List Lift → List Lift → Fraction
+odds m ls = product (map (λ l. l .old .measure) m) // product (map (λ t. sumOf Old t ls) (inUse Old ls))
+
+-- f of each of some selections, added up
+unfoldable pub sumOver : List (List Lift) → (List Lift → Fraction) → Fraction
+sumOver [] f = 0 // 1
+sumOver (m ∷ ms) f = f m ⊕ sumOver ms f
+
+-- the mean over all initial selections of f of the lifts so marked
+unfoldable pub overSelections : List Lift → (List Lift → Fraction) → Fraction
+overSelections ls f = sumOver (selections ls) (λ m. odds m ls ⊗ f (marked m ls))

@@ -1,0 +1,1 @@
+// The whole choice: one lift for each new round of a sheet.
