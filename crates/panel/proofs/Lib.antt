@@ -7,3 +7,8 @@ pub mod RoundsFit
 pub mod Weighing
 pub mod Following
 pub mod Fair
+pub mod Lending
+pub mod Choosing
+pub mod Gathering
+pub mod Pairs
+pub mod Answers

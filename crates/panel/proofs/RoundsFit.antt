@@ -5,16 +5,18 @@ use mathlib.Core.Bool.{Bool, true, false, cond, _&&_, _||_, false≢true, true�
 use mathlib.Core.List.{List, [], _∷_, map, nil≢cons}
 use native.Mathlib.Omega.{arith}
 use lib.Dec.{eqb, ltb}
-use lib.ListN.{length}
+use lib.ListN.{length, length-map}
 use borrow.Author.Tests.{eq-eqb, ne-eqb, eqb-true, eqb-false, lt-ltb, ltb-true, ltb-false, leb-false}
 use Rattle.laws.specs.Sum.{total, totalBy}
 use Rattle.round.specs.Round.{Lift as RoundLift, S, U, Donate, Fitting as RoundFitting}
-use Rattle.round.specs.Slices.{lift, Bounded, SumsBounded}
+use Rattle.round.specs.Share.{Initial, here, elsewhere, heldOf}
+use Rattle.round.specs.declared.Donors.the-variants.{One, Two}
+use Rattle.round.specs.Slices.{lift, Stands, Bounded, SumsBounded}
 use Rattle.sheet.specs.Sheet.{mostRounds, largestSum, Lift, lifts}
 use Rattle.sheet.specs.Rounds.{those, named, sumOf, sends, donors, ofRound}
 use Rattle.sheet.specs.Law.{Fitting}
 use Rattle.sheet.specs.declared.Side.the-variants.{Old, New}
-use Rattle.panel.specs.Choice.{donorNumber, withSums, donorsOf, liftsOf}
+use Rattle.panel.specs.Choice.{donorNumber, withSums, donorsOf, liftsOf, further, heldAt, heldAmong, heldIn}
 
 -- ---- the first of the numbers that pass a test
 
@@ -130,6 +132,23 @@ number-second d e ds h t = go (eqb d t) (eqb e t) refl refl ∙ eqb-sym e t
     go false true p q = refl
     go false false p q = refl
 
+-- ---- held lifts
+
+-- a held lift that is here stands at a place below n
+abbrev Sits : ℕ → Initial → Type 0
+Sits n (here i) = i < n
+Sits n elsewhere = Unit {0}
+
+sits : (t : ℕ) (us : List Lift) → Sits (length us) (heldAt t us)
+unfolding heldAt
+sits t [] = tt
+sits t (u ∷ us) = go (u .held && eqb (u .old .round) t) (heldAt t us) (sits t us)
+  where
+    go : (x : Bool) (y : Initial) → Sits (length us) y → Sits (suc (length us)) (cond x (here 0) (further y))
+    go true y k = omega arith
+    go false (here i) k = omega arith
+    go false elsewhere k = tt
+
 -- what is known of the donors of a round: none, one, or two in rising order
 pub data Senders (r : ℕ) (ls : List Lift) : List ℕ → Type 0 where
   none : Senders r ls []
@@ -192,3 +211,24 @@ module _ {ws : List ℕ} (f : Fitting ws) {r : ℕ} (low : 1 ≤ r) (high : r �
   pub round-bounded : Bounded (donorsOf r (lifts ws)) (liftsOf r (lifts ws))
   unfolding donorsOf
   round-bounded = record { new = rw S-round sum-new; old = limited (donors r (lifts ws)) senders }
+
+  stands-among : (ds : List ℕ) → Senders r (lifts ws) ds → (us : List Lift) → Stands (withSums ds (lifts ws)) (heldAmong ds us) (length us)
+  stands-among [] none us = tt
+  stands-among (d ∷ []) (one s l h) us = go (heldAt d us) (sits d us)
+    where
+      go : (x : Initial) → Sits (length us) x → Stands (One (sumOf Old d (lifts ws))) (heldOf x elsewhere) (length us)
+      go (here i) k = k
+      go elsewhere k = tt
+  stands-among (d ∷ e ∷ []) (two s t l m h) us = go (heldAt d us) (heldAt e us) (sits d us) (sits e us)
+    where
+      go : (x y : Initial) → Sits (length us) x → Sits (length us) y → Stands (Two (sumOf Old d (lifts ws)) (sumOf Old e (lifts ws))) (heldOf x y) (length us)
+      go (here i) (here j) k n = (k, n)
+      go (here i) elsewhere k n = k
+      go elsewhere (here j) k n = n
+      go elsewhere elsewhere k n = tt
+
+  pub round-stands : Stands (donorsOf r (lifts ws)) (heldIn r (lifts ws)) (length (liftsOf r (lifts ws)))
+  unfolding donorsOf heldIn liftsOf
+  round-stands =
+      rw (length-map (ofRound r (lifts ws)) (λ l. lift (l .old .measure) (donorNumber (donors r (lifts ws)) (l .old .round)) (l .new .measure)))
+      (stands-among (donors r (lifts ws)) senders (ofRound r (lifts ws)))

@@ -1,3 +1,4 @@
 pub mod Choice
 pub mod Initial
 pub mod Fair
+pub mod Slices

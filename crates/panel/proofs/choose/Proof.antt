@@ -1,0 +1,54 @@
+-- `panel::choose` meets its contract: what the check ensures, by the two cases of its answer; demand 3 is `fair`. Assumes nothing.
+use mathlib.Core.Path.{sym, ap, _∙_}
+use Rattle.sheet.specs.Refusal.{told as checked}
+use Rattle.sheet.proofs.Verdicts.{decided}
+use Rattle.panel.proofs.Answers.{at-sheet, at-fitting}
+use Rattle.panel.proofs.Fair.{fair}
+use borrow.Author.Needs.{needs}
+use Rattle.panel.proofs.choose.Statement.{statement}
+use Rattle.panel.proofs.choose.Tie as tie
+
+check-requires : tie.Need-check-requires
+check-requires c κs = search needs
+
+enum-known-checked : tie.Need-enum-known-checked
+enum-known-checked c = search needs
+
+enum-known-checked-2 : tie.Need-enum-known-checked-2
+enum-known-checked-2 c = search needs
+
+choose-fitting-requires : tie.Need-choose-fitting-requires
+choose-fitting-requires c κs =
+    let q = c .before .before .checked2 .given in
+    let x =
+    decided (c .before .before .before .before .before .before .before .before .args .sheet .now) .only _ _
+    (sym (c .before .before .before .before .check .ensures) ∙ ap checked (q .1)) in
+    (x .0, (x .1, x .2))
+
+returns : tie.Need-returns
+returns c =
+    let a = c .before .before .before .before .before .before .before .args in
+    let e = at-sheet (a .sheet .now) (a .words .now) (a .start) (a .out .now) (sym (ap checked (c .before .checked .given .1)) ∙ c .before .before .before .check .ensures) in
+    (e .0, (e .1, fair (a .sheet .now)))
+
+same-length : tie.Need-same-length
+same-length c = search needs
+
+returns-2 : tie.Need-returns-2
+returns-2 c =
+    let a = c .before .before .before .before .before .before .before .before .before .before .before .args in
+    let r = c .before .before .choose-fitting .ensures in
+    let e = at-fitting (a .sheet .now) (a .words .now) (a .start) (a .out .now) (sym (ap checked (c .before .before .before .before .before .checked2 .given .1)) ∙ c .before .before .before .before .before .before .before .check .ensures) (r .0) (r .1) in
+    (e .0, (e .1, fair (a .sheet .now)))
+
+pub choose-spec : {M : Type 1} → statement M
+choose-spec =
+    tie.close
+    (tie.spec
+    check-requires
+    enum-known-checked
+    enum-known-checked-2
+    choose-fitting-requires
+    returns
+    same-length
+    returns-2)

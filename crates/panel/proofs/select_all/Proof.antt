@@ -1,0 +1,130 @@
+-- `panel::select_all` meets its contract: what is gathered from the sheet is lent as its lifts and tables, so the choices of all rounds are the panel's. Assumes nothing.
+use native.Mathlib.Omega.{arith}
+use mathlib.Core.Path.{sym, subst, _∙_}
+use lib.ListN.{take}
+use lib.Seq.{length-take-le}
+use Rattle.sheet.specs.Sheet.{lifts}
+use Rattle.sheet.proofs.Verdicts.{legible}
+use Rattle.panel.specs.Choice.{panel}
+use Rattle.panel.specs.Slices.{Lent, lent, Picked}
+use Rattle.panel.proofs.Choosing.{Lends, gathered}
+use Rattle.panel.proofs.Gathering.{lifts-few, lends-ready}
+use Rattle.panel.proofs.select_all.Statement.{statement}
+use Rattle.panel.proofs.select_all.Tie as tie
+
+starts-requires : tie.Need-starts-requires
+starts-requires c κs = legible (c .before .before .pre .0)
+
+tally-requires : tie.Need-tally-requires
+tally-requires c κs = legible (c .before .before .before .pre .0)
+
+donors-requires : tie.Need-donors-requires
+donors-requires c κs = legible (c .before .before .before .before .pre .0)
+
+donors-requires-2 : tie.Need-donors-requires-2
+donors-requires-2 c κs = legible (c .before .before .before .before .before .pre .0)
+
+gather-requires : tie.Need-gather-requires
+gather-requires c κs = (legible (c .before .before .before .before .before .before .pre .0), (c .before .before .before .starts .ensures, ((c .before .before .before .before .before .before .pre .1, lifts-few (c .before .before .before .before .before .before .pre)))))
+
+gather-requires-2 : tie.Need-gather-requires-2
+gather-requires-2 c κs = (legible (c .before .before .before .before .before .before .before .pre .0), (c .before .before .before .before .starts .ensures, ((c .before .before .before .before .before .before .before .pre .1, lifts-few (c .before .before .before .before .before .before .before .pre)))))
+
+gather-requires-3 : tie.Need-gather-requires-3
+gather-requires-3 c κs = (legible (c .before .before .before .before .before .before .before .before .pre .0), (c .before .before .before .before .before .starts .ensures, ((c .before .before .before .before .before .before .before .before .pre .1, lifts-few (c .before .before .before .before .before .before .before .before .pre)))))
+
+gather-requires-4 : tie.Need-gather-requires-4
+gather-requires-4 c κs = (legible (c .before .before .before .before .before .before .before .before .before .pre .0), (c .before .before .before .before .before .before .starts .ensures, ((c .before .before .before .before .before .before .before .before .before .pre .1, lifts-few (c .before .before .before .before .before .before .before .before .before .pre)))))
+
+gather-requires-5 : tie.Need-gather-requires-5
+gather-requires-5 c κs = (legible (c .before .before .before .before .before .before .before .before .before .before .pre .0), (c .before .before .before .before .before .before .before .starts .ensures, ((c .before .before .before .before .before .before .before .before .before .before .pre .1, lifts-few (c .before .before .before .before .before .before .before .before .before .before .pre)))))
+
+array-share-prefix-number : tie.Need-array-share-prefix-number
+array-share-prefix-number c = omega (arith, lifts-few (c .before .before .before .before .before .before .before .before .before .before .before .pre), c .before .before .before .before .gather .ok .1 .0 .1)
+
+slice-aggregate-select-rounds : tie.Need-slice-aggregate-select-rounds
+slice-aggregate-select-rounds c = sym (length-take-le _ _ (array-share-prefix-number (c .before)))
+
+array-share-prefix-from : tie.Need-array-share-prefix-from
+array-share-prefix-from c = omega (arith, lifts-few (c .before .before .before .before .before .before .before .before .before .before .before .before .pre), c .before .before .before .before .gather2 .ok .1 .0 .1)
+
+slice-aggregate-select-rounds-2 : tie.Need-slice-aggregate-select-rounds-2
+slice-aggregate-select-rounds-2 c = sym (length-take-le _ _ (array-share-prefix-from (c .before)))
+
+array-share-prefix-old : tie.Need-array-share-prefix-old
+array-share-prefix-old c = omega (arith, lifts-few (c .before .before .before .before .before .before .before .before .before .before .before .before .before .pre), c .before .before .before .before .gather3 .ok .1 .0 .1)
+
+slice-aggregate-select-rounds-3 : tie.Need-slice-aggregate-select-rounds-3
+slice-aggregate-select-rounds-3 c = sym (length-take-le _ _ (array-share-prefix-old (c .before)))
+
+array-share-prefix-new : tie.Need-array-share-prefix-new
+array-share-prefix-new c = omega (arith, lifts-few (c .before .before .before .before .before .before .before .before .before .before .before .before .before .before .pre), c .before .before .before .before .gather4 .ok .1 .0 .1)
+
+slice-aggregate-select-rounds-4 : tie.Need-slice-aggregate-select-rounds-4
+slice-aggregate-select-rounds-4 c = sym (length-take-le _ _ (array-share-prefix-new (c .before)))
+
+array-share-prefix-held : tie.Need-array-share-prefix-held
+array-share-prefix-held c = omega (arith, lifts-few (c .before .before .before .before .before .before .before .before .before .before .before .before .before .before .before .pre), c .before .before .before .before .gather5 .ok .1 .0 .1)
+
+slice-aggregate-select-rounds-5 : tie.Need-slice-aggregate-select-rounds-5
+slice-aggregate-select-rounds-5 c = sym (length-take-le _ _ (array-share-prefix-held (c .before)))
+
+array-borrow-prefix-donor : tie.Need-array-borrow-prefix-donor
+array-borrow-prefix-donor c = lifts-few (c .before .before .before .before .before .before .before .before .before .before .before .before .before .before .before .before .pre)
+
+slice-aggregate-select-rounds-6 : tie.Need-slice-aggregate-select-rounds-6
+slice-aggregate-select-rounds-6 c = sym (length-take-le _ _ (array-borrow-prefix-donor (c .before)))
+
+-- what is lent, and that it is the sheet's
+abbrev given : (c : tie.After-high) → Lent
+given c =
+    lent (take (c .before .before .before .before .before .before .before .before .before .before .before .before .before .before .before .before .before .before .before .before .before .args .lifts) (c .before .before .before .before .before .before .before .before .before .before .before .before .before .before .gather .result)) (take (c .before .before .before .before .before .before .before .before .before .before .before .before .before .before .before .before .before .before .before .before .before .args .lifts) (c .before .before .before .before .before .before .before .before .before .before .before .before .before .gather2 .result)) (take (c .before .before .before .before .before .before .before .before .before .before .before .before .before .before .before .before .before .before .before .before .before .args .lifts) (c .before .before .before .before .before .before .before .before .before .before .before .before .gather3 .result)) (take (c .before .before .before .before .before .before .before .before .before .before .before .before .before .before .before .before .before .before .before .before .before .args .lifts) (c .before .before .before .before .before .before .before .before .before .before .before .gather4 .result)) (take (c .before .before .before .before .before .before .before .before .before .before .before .before .before .before .before .before .before .before .before .before .before .args .lifts) (c .before .before .before .before .before .before .before .before .before .before .gather5 .result)) (c .before .before .before .before .before .before .before .before .before .before .before .before .before .before .before .before .before .before .starts .result) (c .before .before .before .before .before .before .before .before .before .before .before .before .before .before .before .before .before .tally .result) (c .before .before .before .before .before .before .before .before .before .before .before .before .before .before .before .before .donors .result) (c .before .before .before .before .before .before .before .before .before .before .before .before .before .before .before .donors2 .result)
+
+lends : (c : tie.After-high) → Lends (c .before .before .before .before .before .before .before .before .before .before .before .before .before .before .before .before .before .before .before .before .before .args .sheet .now) (given c)
+lends c =
+    record {
+      fitting = c .before .before .before .before .before .before .before .before .before .before .before .before .before .before .before .before .before .before .before .before .before .pre .0;
+      numbers = c .before .before .before .before .before .before .before .before .before .before .before .before .before .before .gather .ensures;
+      from = c .before .before .before .before .before .before .before .before .before .before .before .before .before .gather2 .ensures;
+      old = c .before .before .before .before .before .before .before .before .before .before .before .before .gather3 .ensures;
+      new = c .before .before .before .before .before .before .before .before .before .before .before .gather4 .ensures;
+      held = c .before .before .before .before .before .before .before .before .before .before .gather5 .ensures;
+      starts = c .before .before .before .before .before .before .before .before .before .before .before .before .before .before .before .before .before .before .starts .ensures;
+      sums = c .before .before .before .before .before .before .before .before .before .before .before .before .before .before .before .before .before .tally .ensures;
+      low = c .before .before .before .before .before .before .before .before .before .before .before .before .before .before .before .before .donors .ensures;
+      high = c .before .before .before .before .before .before .before .before .before .before .before .before .before .before .before .donors2 .ensures;
+    }
+
+select-rounds-requires : tie.Need-select-rounds-requires
+select-rounds-requires c κs = (lends-ready (lends c) (c .before .before .before .before .before .before .before .before .before .before .before .before .before .before .before .before .before .before .before .before .before .pre .1) (slice-aggregate-select-rounds (c .before .before .before .before .before .before .before .before .before)) (slice-aggregate-select-rounds-2 (c .before .before .before .before .before .before .before .before)) (slice-aggregate-select-rounds-3 (c .before .before .before .before .before .before .before)) (slice-aggregate-select-rounds-4 (c .before .before .before .before .before .before)) (slice-aggregate-select-rounds-5 (c .before .before .before .before .before)), (sym (slice-aggregate-select-rounds-6 (c .before .before .before .before)) ∙ slice-aggregate-select-rounds (c .before .before .before .before .before .before .before .before .before)))
+
+returns : tie.Need-returns
+returns c = subst (Picked (panel (lifts (c .before .before .before .before .before .before .before .before .before .before .before .before .before .before .before .before .before .before .before .before .before .before .before .args .sheet .now)) (c .before .before .before .before .before .before .before .before .before .before .before .before .before .before .before .before .before .before .before .before .before .before .before .args .words .now) (c .before .before .before .before .before .before .before .before .before .before .before .before .before .before .before .before .before .before .before .before .before .before .before .args .start))) (sym (c .before .select-rounds .ensures)) (gathered (lends (c .before .before)) (c .before .before .before .before .before .before .before .before .before .before .before .before .before .before .before .before .before .before .before .before .before .before .before .args .words .now) (c .before .before .before .before .before .before .before .before .before .before .before .before .before .before .before .before .before .before .before .before .before .before .before .args .start))
+
+pub select-all-spec : {M : Type 1} → statement M
+select-all-spec =
+    tie.close
+    (tie.spec
+    starts-requires
+    tally-requires
+    donors-requires
+    donors-requires-2
+    gather-requires
+    gather-requires-2
+    gather-requires-3
+    gather-requires-4
+    gather-requires-5
+    array-share-prefix-number
+    slice-aggregate-select-rounds
+    array-share-prefix-from
+    slice-aggregate-select-rounds-2
+    array-share-prefix-old
+    slice-aggregate-select-rounds-3
+    array-share-prefix-new
+    slice-aggregate-select-rounds-4
+    array-share-prefix-held
+    slice-aggregate-select-rounds-5
+    array-borrow-prefix-donor
+    slice-aggregate-select-rounds-6
+    select-rounds-requires
+    returns)
