@@ -1,11 +1,14 @@
 // The functions that the harness calls, by the C calling convention.
 ghost use mathlib.Core.Path.{_≡_};
+ghost use lib.ListN.{length};
 ghost use Rattle.draw.specs.Draw.{largest, drawAt};
 ghost use Rattle.round.specs.Choice.{selected};
 ghost use Rattle.round.specs.Slices.{lifts, Level, Callable};
 ghost use Rattle.sheet.specs.Refusal.{verdict};
-ghost use Rattle.exports.specs.Reply.{Replied, donorsOf, heldOf, Chose, Answered};
+ghost use Rattle.panel.specs.Choice.{reply, output};
+ghost use Rattle.exports.specs.Reply.{Replied, donorsOf, heldOf, Chose, Answered, Told};
 use draw::Drawn;
+use panel::Answer;
 use round::Donors;
 use round::Held;
 use round::Selected;
@@ -118,6 +121,46 @@ pub extern "C" fn jengpilo_sheet_check(sheet: &[u32], place: &mut usize, rounds:
         Checked::Fits(s) => {
             *place = s.lifts;
             *rounds = s.rounds;
+            0
+        }
+    }
+}
+
+// `panel::choose`: the document's number and place, and 0 words read; or 0, how many choices and how many words were read.
+#[no_mangle]
+pub extern "C" fn jengpilo_panel_choose(
+    sheet: &[u32],
+    words: &[u64],
+    start: usize,
+    out: &mut [u32],
+    place: &mut usize,
+    read: &mut usize,
+) -> u32
+    ensures told { λ r. ⌜ Told (reply (now (sheet .entry)) (now (words .entry)) start (length (now (out .entry)))) r (now (place .exit)) (now (read .exit)) ⌝ }
+    ensures written { λ _. ⌜ now (out .exit) ≡ output (now (sheet .entry)) (now (words .entry)) start (now (out .entry)) ⌝ }
+{
+    let answer = panel::choose(sheet, words, start, out);
+    *read = 0;
+    match answer {
+        Answer::Sheet(x) => {
+            *place = x.place();
+            x.number()
+        }
+        Answer::Start(at) => {
+            *place = at;
+            11
+        }
+        Answer::Output(need) => {
+            *place = need;
+            12
+        }
+        Answer::Words(round) => {
+            *place = round;
+            13
+        }
+        Answer::Chosen(choices, count) => {
+            *place = choices;
+            *read = count;
             0
         }
     }
