@@ -1,6 +1,6 @@
 //! The proved functions of the archive, behind safe wrappers.
 
-use crate::reference::{Choice, Outcome, Round, Verdict};
+use crate::reference::{Choice, Outcome, Reply, Round, Verdict};
 
 extern "C" {
     fn jengpilo_draw_below(
@@ -38,6 +38,18 @@ extern "C" {
         len: usize,
         place: *mut usize,
         rounds: *mut usize,
+    ) -> u32;
+
+    fn jengpilo_panel_choose(
+        sheet: *const u32,
+        sheet_len: usize,
+        words: *const u64,
+        words_len: usize,
+        start: usize,
+        out: *mut u32,
+        out_len: usize,
+        place: *mut usize,
+        read: *mut usize,
     ) -> u32;
 }
 
@@ -130,6 +142,32 @@ pub fn check_sheet(sheet: &[u32]) -> Verdict {
     }
     assert_eq!(rounds, unwritten, "a refusal wrote the rounds");
     Verdict::Refused { number, place }
+}
+
+/// Chooses for all new rounds with words read from `start` on, and writes a pair for each.
+pub fn choose_panel(sheet: &[u32], words: &[u64], start: usize, out: &mut [u32]) -> Reply {
+    let unwritten = usize::MAX - 7;
+    let (mut place, mut read) = (unwritten, unwritten);
+    // SAFETY: all slices and both places live through the call, and each length is its slice's.
+    let number = unsafe {
+        jengpilo_panel_choose(
+            sheet.as_ptr(),
+            sheet.len(),
+            words.as_ptr(),
+            words.len(),
+            start,
+            out.as_mut_ptr(),
+            out.len(),
+            &mut place,
+            &mut read,
+        )
+    };
+    if number == 0 {
+        let (choices, words) = (place, read);
+        return Reply::Chosen { choices, words };
+    }
+    assert_eq!(read, 0, "a refusal counted words");
+    Reply::Refused { number, place }
 }
 
 /// How many donors the round has.

@@ -4,3 +4,4 @@ pub mod archive;
 pub mod reference;
 pub mod seeded;
 pub mod sheets;
+pub mod ways;

@@ -87,6 +87,6 @@ impl Seeded {
 }
 
 /// K × W: the first word that is passed over.
-fn limit(bound: u64) -> u64 {
+pub fn limit(bound: u64) -> u64 {
     u64::MAX / bound * bound
 }

@@ -3,14 +3,11 @@
 use harness::archive;
 use harness::reference::{choose, choose_by, Choice, Lift, Outcome, Round};
 use harness::seeded::Seeded;
-use std::collections::BTreeMap;
+use harness::ways::{step, Drawn, Weights};
 use std::iter;
 
 /// A lift's donor (0 for none), old measure and new measure.
 type LiftRow = (usize, u64, u64);
-
-/// A bound asked for and the value given.
-type Drawn = (u128, u128);
 
 /// A round of such lifts.
 fn round(rows: &[LiftRow], old_sums: [u64; 2], held: [Option<usize>; 2]) -> Round {
@@ -225,19 +222,8 @@ fn whole_sum(round: &Round, donor: usize) -> u128 {
     round.old_sums[donor].max(1).into()
 }
 
-/// Steps to the next values of the draws made; false when all have been through.
-fn step(draws: &mut Vec<Drawn>) -> bool {
-    while let Some((bound, value)) = draws.pop() {
-        if value + 1 < bound {
-            draws.push((bound, value + 1));
-            return true;
-        }
-    }
-    false
-}
-
-/// Calls `seen` with the chosen place and the product of the bounds for all draws' values, on each of which archive and reference agree.
-fn all_ways(round: &Round, mut seen: impl FnMut(usize, u128)) {
+/// Calls `seen` with the chosen place and the draws for all draws' values, on each of which archive and reference agree.
+fn all_ways(round: &Round, mut seen: impl FnMut(usize, &[Drawn])) {
     let mut draws: Vec<Drawn> = Vec::new();
     loop {
         let mut made = 0;
@@ -254,50 +240,36 @@ fn all_ways(round: &Round, mut seen: impl FnMut(usize, u128)) {
             agreed(round, &words, 0).map(|choice| choice.place),
             Some(place)
         );
-        seen(place, draws.iter().map(|(bound, _)| bound).product());
+        seen(place, &draws);
         if !step(&mut draws) {
             return;
         }
     }
 }
 
-/// For each product of bounds, the weight of the ways to each lift out of both whole old sums.
-fn weigh_ways(round: &Round) -> BTreeMap<u128, Vec<u128>> {
-    let mut weights = BTreeMap::new();
+/// The ways to each lift, weighed out of both whole old sums.
+fn weigh_ways(round: &Round) -> Weights {
+    let mut weights = Weights::new(round.lifts.len());
     let mut marked = round.clone();
     for (held_1, weight_1) in held_places(round, 0) {
         for (held_2, weight_2) in held_places(round, 1) {
             marked.held = [held_1, held_2];
-            all_ways(&marked, |place, bounds| {
-                let unweighed = || vec![0; round.lifts.len()];
-                weights.entry(bounds).or_insert_with(unweighed)[place] += weight_1 * weight_2;
+            all_ways(&marked, |place, draws| {
+                weights.add(place, weight_1 * weight_2, draws);
             });
         }
     }
     weights
 }
 
-/// The least common multiple.
-fn common_multiple(a: u128, b: u128) -> u128 {
-    let (mut divisor, mut rest) = (a, b);
-    while rest > 0 {
-        (divisor, rest) = (rest, divisor % rest);
-    }
-    a / divisor * b
-}
-
 /// Checks that the ways to each lift weigh exactly b over S, multiplied out.
 fn check_shares(round: &Round) {
-    let weights = weigh_ways(round);
-    let common = weights.keys().copied().fold(1, common_multiple);
+    let (weights, common) = weigh_ways(round).total();
     let whole = common * whole_sum(round, 0) * whole_sum(round, 1);
     for (place, lift) in round.lifts.iter().enumerate() {
-        let parts = weights.iter();
-        let weight: u128 = parts
-            .map(|(bounds, ways)| ways[place] * (common / bounds))
-            .sum();
         let expected = whole * u128::from(lift.new_measure);
-        assert_eq!(weight * round.new_sum(), expected, "{place} of {round:?}");
+        let weight = weights[place] * round.new_sum();
+        assert_eq!(weight, expected, "{place} of {round:?}");
     }
 }
 

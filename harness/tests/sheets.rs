@@ -4,58 +4,14 @@ use harness::archive;
 use harness::reference::{check, write_sheet, SheetLift, Verdict};
 use harness::seeded::Seeded;
 use harness::sheets::{damaged_sheet, fitting_lifts, LIFT_DAMAGES, WORD_DAMAGES};
-
-/// A round and a measure.
-type Place = (u32, u32);
-
-/// The place of a newcomer or a withdrawn lift.
-const NONE: Place = (0, 0);
+use harness::sheets::{held, lift, numbered, EXAMPLE, NONE};
 
 /// The largest sum and measure.
 const LARGEST: u32 = 1_048_576;
 
-/// The document's sheet: lifts 11, 12 (held) and 13 of one round.
-const EXAMPLE: [u32; 11] = [
-    0x1000_000B,
-    0x2020_0002,
-    0x3020_0004,
-    0x1000_000C,
-    0x2020_0003,
-    0x3020_0001,
-    0x4000_0000,
-    0x1000_000D,
-    0x2020_0005,
-    0x3020_0005,
-    0xF000_0003,
-];
-
-/// A lift without a number.
-fn lift(old: Place, new: Place) -> SheetLift {
-    SheetLift {
-        number: 0,
-        old_round: old.0,
-        old_measure: old.1,
-        new_round: new.0,
-        new_measure: new.1,
-        held: false,
-    }
-}
-
-/// A held lift without a number.
-fn held(old: Place, new: Place) -> SheetLift {
-    SheetLift {
-        held: true,
-        ..lift(old, new)
-    }
-}
-
 /// The sheet of lifts numbered from 1 up.
 fn sheet(lifts: &[SheetLift]) -> Vec<u32> {
-    let mut lifts = lifts.to_vec();
-    for (lift, number) in lifts.iter_mut().zip(1..) {
-        lift.number = number;
-    }
-    write_sheet(&lifts)
+    write_sheet(&numbered(lifts, 1))
 }
 
 /// A sheet that fits.
@@ -84,15 +40,12 @@ fn agreed_on(lifts: &[SheetLift]) -> Verdict {
 #[test]
 fn example_fits() {
     assert_eq!(agreed(&EXAMPLE), fits(3, 1));
-    let mut lifts = [
+    let lifts = [
         lift((1, 2), (1, 4)),
         held((1, 3), (1, 1)),
         lift((1, 5), (1, 5)),
     ];
-    for (lift, number) in lifts.iter_mut().zip(11..) {
-        lift.number = number;
-    }
-    assert_eq!(write_sheet(&lifts), EXAMPLE);
+    assert_eq!(write_sheet(&numbered(&lifts, 11)), EXAMPLE);
 }
 
 #[test]

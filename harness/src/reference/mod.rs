@@ -1,10 +1,12 @@
 //! The reference, written from the scope document alone.
 
 mod draw;
+mod panel;
 mod round;
 mod sheet;
 
 pub use draw::draw;
+pub use panel::{choose_panel, new_rounds, report, NewRound, Reply};
 pub use round::{choose, choose_by, Choice, Lift, Outcome, Round};
-pub use sheet::{check, write_sheet, SheetLift, Verdict};
-pub use sheet::{LARGEST_SUM, LONGEST_SHEET, MOST_ROUNDS};
+pub use sheet::{check, read_sheet, write_sheet, Sheet, SheetLift, Verdict};
+pub use sheet::{donors, new_sum, old_sum, LARGEST_SUM, LONGEST_SHEET, MOST_ROUNDS};

@@ -1,6 +1,6 @@
 //! The sheet: its words, its lifts and what it is refused for.
 
-use std::collections::BTreeSet;
+use std::collections::{BTreeMap, BTreeSet};
 
 /// The most lifts a sheet has.
 const MOST_LIFTS: usize = 4_096;
@@ -49,18 +49,39 @@ pub enum Verdict {
 }
 
 /// A refusal's number and place.
-type Refusal = (u32, usize);
+pub type Refusal = (u32, usize);
+
+/// The rounds from 1 up that lifts name, each with its lifts in lift order.
+pub type LiftsByRound = BTreeMap<u32, Vec<SheetLift>>;
+
+/// The lifts of a sheet, by their old rounds and by their new ones.
+pub struct Sheet {
+    pub lifts: Vec<SheetLift>,
+    pub old_rounds: LiftsByRound,
+    pub new_rounds: LiftsByRound,
+}
 
 /// Checks a sheet for the refusals because of the sheet.
 pub fn check(sheet: &[u32]) -> Verdict {
-    let fitting = read_lifts(sheet).and_then(|lifts| {
-        let rounds = check_rounds(&lifts)?;
-        Ok((lifts.len(), rounds))
-    });
-    match fitting {
-        Ok((lifts, rounds)) => Verdict::Fits { lifts, rounds },
+    match read_sheet(sheet) {
+        Ok(sheet) => Verdict::Fits {
+            lifts: sheet.lifts.len(),
+            rounds: sheet.new_rounds.len(),
+        },
         Err((number, place)) => Verdict::Refused { number, place },
     }
+}
+
+/// Reads a sheet that fits; refusals 1 to 10.
+pub fn read_sheet(sheet: &[u32]) -> Result<Sheet, Refusal> {
+    let lifts = read_lifts(sheet)?;
+    let sheet = Sheet {
+        old_rounds: by_round(&lifts, |lift| lift.old_round),
+        new_rounds: by_round(&lifts, |lift| lift.new_round),
+        lifts,
+    };
+    check_rounds(&sheet)?;
+    Ok(sheet)
 }
 
 /// Writes lifts as a sheet.
@@ -77,12 +98,12 @@ pub fn write_sheet(lifts: &[SheetLift]) -> Vec<u32> {
 }
 
 /// A word of a kind and its payload.
-fn word(kind: u32, payload: u32) -> u32 {
+pub(super) fn word(kind: u32, payload: u32) -> u32 {
     kind << PAYLOAD_BITS | payload
 }
 
 /// A place's word.
-fn place_word(kind: u32, round: u32, measure: u32) -> u32 {
+pub(super) fn place_word(kind: u32, round: u32, measure: u32) -> u32 {
     word(kind, round << MEASURE_BITS | measure)
 }
 
@@ -92,12 +113,12 @@ fn kind_of(word: u32) -> u32 {
 }
 
 /// A word's payload.
-fn payload_of(word: u32) -> u32 {
+pub(super) fn payload_of(word: u32) -> u32 {
     word & ((1 << PAYLOAD_BITS) - 1)
 }
 
 /// The round and measure of a place's payload.
-fn place_of(payload: u32) -> (u32, u32) {
+pub(super) fn place_of(payload: u32) -> (u32, u32) {
     (payload >> MEASURE_BITS, payload & ((1 << MEASURE_BITS) - 1))
 }
 
@@ -182,57 +203,56 @@ fn place_fits(payload: u32) -> bool {
     round <= MOST_ROUNDS && measure <= LARGEST_SUM && (round > 0 || measure == 0)
 }
 
-/// Counts the new rounds; refusals 7 to 10.
-fn check_rounds(lifts: &[SheetLift]) -> Result<usize, Refusal> {
-    let old_rounds = rounds_named(lifts.iter().map(|lift| lift.old_round));
-    let new_rounds = rounds_named(lifts.iter().map(|lift| lift.new_round));
+/// Gathers the lifts of each round from 1 up.
+fn by_round(lifts: &[SheetLift], round_of: impl Fn(&SheetLift) -> u32) -> LiftsByRound {
+    let mut lists = vec![Vec::new(); MOST_ROUNDS as usize + 1];
+    for lift in lifts {
+        lists[round_of(lift) as usize].push(*lift);
+    }
+    let rounds = (0..).zip(lists).skip(1);
+    rounds.filter(|(_, lifts)| !lifts.is_empty()).collect()
+}
+
+/// Checks the rounds; refusals 7 to 10.
+fn check_rounds(sheet: &Sheet) -> Result<(), Refusal> {
+    let (old_rounds, new_rounds) = (&sheet.old_rounds, &sheet.new_rounds);
     let largest = u64::from(LARGEST_SUM);
-    refuse_first(7, &old_rounds, |round| held_count(lifts, round) != 1)?;
-    refuse_first(8, &old_rounds, |round| old_sum(lifts, round) > largest)?;
-    refuse_first(8, &new_rounds, |round| new_sum(lifts, round) > largest)?;
-    refuse_first(9, &new_rounds, |round| new_sum(lifts, round) == 0)?;
-    refuse_first(10, &new_rounds, |round| donor_count(lifts, round) > 2)?;
-    Ok(new_rounds.len())
+    refuse_first(7, old_rounds, |lifts| held_count(lifts) != 1)?;
+    refuse_first(8, old_rounds, |lifts| old_sum(lifts) > largest)?;
+    refuse_first(8, new_rounds, |lifts| new_sum(lifts) > largest)?;
+    refuse_first(9, new_rounds, |lifts| new_sum(lifts) == 0)?;
+    refuse_first(10, new_rounds, |lifts| donors(lifts).len() > 2)
 }
 
-/// The different rounds from 1 up.
-fn rounds_named(rounds: impl Iterator<Item = u32>) -> BTreeSet<u32> {
-    rounds.filter(|&round| round > 0).collect()
-}
-
-/// Refuses by the number if a round is faulty; the place is the lowest such round.
+/// Refuses by the number if a round's lifts are faulty; the place is the lowest such round.
 fn refuse_first(
     number: u32,
-    rounds: &BTreeSet<u32>,
-    faulty: impl Fn(u32) -> bool,
+    rounds: &LiftsByRound,
+    faulty: impl Fn(&[SheetLift]) -> bool,
 ) -> Result<(), Refusal> {
-    match rounds.iter().find(|&&round| faulty(round)) {
-        Some(&round) => Err((number, round as usize)),
+    match rounds.iter().find(|(_, lifts)| faulty(lifts)) {
+        Some((&round, _)) => Err((number, round as usize)),
         None => Ok(()),
     }
 }
 
-/// How many lifts of an old round are held.
-fn held_count(lifts: &[SheetLift], old_round: u32) -> usize {
-    let held = lifts.iter().filter(|lift| lift.held);
-    held.filter(|lift| lift.old_round == old_round).count()
+/// How many lifts are held.
+fn held_count(lifts: &[SheetLift]) -> usize {
+    lifts.iter().filter(|lift| lift.held).count()
 }
 
-/// The sum of an old round's measures.
-fn old_sum(lifts: &[SheetLift], old_round: u32) -> u64 {
-    let lifts = lifts.iter().filter(|lift| lift.old_round == old_round);
-    lifts.map(|lift| u64::from(lift.old_measure)).sum()
+/// The sum of the old measures.
+pub fn old_sum(lifts: &[SheetLift]) -> u64 {
+    lifts.iter().map(|lift| u64::from(lift.old_measure)).sum()
 }
 
-/// The sum of a new round's measures.
-fn new_sum(lifts: &[SheetLift], new_round: u32) -> u64 {
-    let lifts = lifts.iter().filter(|lift| lift.new_round == new_round);
-    lifts.map(|lift| u64::from(lift.new_measure)).sum()
+/// The sum of the new measures.
+pub fn new_sum(lifts: &[SheetLift]) -> u64 {
+    lifts.iter().map(|lift| u64::from(lift.new_measure)).sum()
 }
 
-/// How many different old rounds send a new round measure.
-fn donor_count(lifts: &[SheetLift], new_round: u32) -> usize {
-    let lifts = lifts.iter().filter(|lift| lift.new_round == new_round);
-    let sending = lifts.filter(|lift| lift.old_measure > 0);
-    rounds_named(sending.map(|lift| lift.old_round)).len()
+/// The old rounds that send measure with these lifts of a new round.
+pub fn donors(lifts: &[SheetLift]) -> BTreeSet<u32> {
+    let sending = lifts.iter().filter(|lift| lift.old_measure > 0);
+    sending.map(|lift| lift.old_round).collect()
 }

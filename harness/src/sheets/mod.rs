@@ -1,8 +1,14 @@
 //! Seeded sheets.
 
+mod by_hand;
 mod damage;
+mod lifelike;
+mod words;
 
+pub use by_hand::{held, lift, numbered, Place, EXAMPLE, NONE};
 pub use damage::{damaged_sheet, LIFT_DAMAGES, WORD_DAMAGES};
+pub use lifelike::{lifelike_lifts, Town};
+pub use words::{add_round_words, add_sheet_words};
 
 use crate::reference::{SheetLift, MOST_ROUNDS};
 use crate::seeded::Seeded;

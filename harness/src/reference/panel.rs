@@ -1,0 +1,146 @@
+//! The whole choice for a sheet, and the program's text.
+
+use super::sheet::{payload_of, place_of, place_word, word, Refusal};
+use super::MOST_ROUNDS;
+use super::{choose, donors, old_sum, read_sheet, Choice, Lift, Round, Sheet, SheetLift};
+use std::collections::BTreeMap;
+
+/// The most random words the program reads.
+const MOST_WORDS: usize = 4_096;
+
+// The kinds of output words.
+const OUTCOME: u32 = 5;
+const CHOSEN: u32 = 6;
+
+/// The reply to a call that chooses; the numbers are the document's.
+#[derive(Clone, Copy, Debug, PartialEq, Eq)]
+pub enum Reply {
+    /// Refused by this number at this place.
+    Refused { number: u32, place: usize },
+    /// How many choices were made and how many words were read.
+    Chosen { choices: usize, words: usize },
+}
+
+/// A new round, its number and the numbers of its lifts.
+pub struct NewRound {
+    pub number: u32,
+    pub lift_numbers: Vec<u32>,
+    pub round: Round,
+}
+
+/// Chooses for all new rounds with words read from `start` on, and writes a pair for each.
+pub fn choose_panel(sheet: &[u32], words: &[u64], start: usize, out: &mut [u32]) -> Reply {
+    match choose_pairs(sheet, words, start, out.len()) {
+        Ok((pairs, words)) => {
+            let written = pairs.as_flattened();
+            out[..written.len()].copy_from_slice(written);
+            let choices = pairs.len();
+            Reply::Chosen { choices, words }
+        }
+        Err((number, place)) => Reply::Refused { number, place },
+    }
+}
+
+/// The output's pairs and how many words were read; refusals 1 to 13.
+fn choose_pairs(
+    sheet: &[u32],
+    words: &[u64],
+    start: usize,
+    lent: usize,
+) -> Result<(Vec<[u32; 2]>, usize), Refusal> {
+    let rounds = new_rounds(&read_sheet(sheet)?);
+    let needed = 2 * rounds.len();
+    if start > words.len() {
+        return Err((11, start));
+    }
+    if lent < needed {
+        return Err((12, needed));
+    }
+    let mut next = start;
+    let mut pairs = Vec::new();
+    for round in &rounds {
+        let choice = choose(&round.round, words, next);
+        let choice = choice.ok_or((13, round.number as usize))?;
+        next = choice.next;
+        pairs.push(round.pair(choice));
+    }
+    Ok((pairs, next - start))
+}
+
+/// The new rounds of a sheet that fits, rising.
+pub fn new_rounds(sheet: &Sheet) -> Vec<NewRound> {
+    let old_rounds = sheet.old_rounds.iter();
+    let old_sums: BTreeMap<u32, u64> = old_rounds
+        .map(|(&round, lifts)| (round, old_sum(lifts)))
+        .collect();
+    let new_rounds = sheet.new_rounds.iter();
+    new_rounds
+        .map(|(&number, lifts)| NewRound {
+            number,
+            lift_numbers: lifts.iter().map(|lift| lift.number).collect(),
+            round: round_of(lifts, &old_sums),
+        })
+        .collect()
+}
+
+/// The round of these lifts, given the sum of each old round.
+fn round_of(lifts: &[SheetLift], old_sums: &BTreeMap<u32, u64>) -> Round {
+    let donors: Vec<u32> = donors(lifts).into_iter().collect();
+    let donor_of = |lift: &SheetLift| match lift.old_measure {
+        0 => None,
+        _ => donors.iter().position(|&donor| donor == lift.old_round),
+    };
+    let whole = |donor: usize| donors.get(donor).map_or(0, |round| old_sums[round]);
+    let held = |donor: usize| {
+        let mut lifts = lifts.iter();
+        lifts.position(|lift| lift.held && donor_of(lift) == Some(donor))
+    };
+    let measured = |lift: &SheetLift| Lift {
+        donor: donor_of(lift),
+        old_measure: lift.old_measure.into(),
+        new_measure: lift.new_measure.into(),
+    };
+    Round {
+        lifts: lifts.iter().map(measured).collect(),
+        old_sums: [0, 1].map(whole),
+        held: [0, 1].map(held),
+    }
+}
+
+impl NewRound {
+    /// The output's two words for a choice.
+    fn pair(&self, choice: Choice) -> [u32; 2] {
+        [
+            place_word(OUTCOME, self.number, choice.outcome as u32),
+            word(CHOSEN, self.lift_numbers[choice.place]),
+        ]
+    }
+}
+
+/// What the program prints, given the whole content of its two files.
+pub fn report(sheet_bytes: &[u8], words_bytes: &[u8]) -> String {
+    let (sheet, unfinished) = sheet_bytes.as_chunks();
+    if !unfinished.is_empty() {
+        return format!("refused 1 {}\n", sheet_bytes.len());
+    }
+    let sheet: Vec<u32> = sheet.iter().map(|word| u32::from_le_bytes(*word)).collect();
+    let (words, _unfinished) = words_bytes.as_chunks();
+    let words = words.iter().take(MOST_WORDS);
+    let words: Vec<u64> = words.map(|word| u64::from_le_bytes(*word)).collect();
+    let mut out = [0; 2 * MOST_ROUNDS as usize];
+    match choose_panel(&sheet, &words, 0, &mut out) {
+        Reply::Refused { number, place } => format!("refused {number} {place}\n"),
+        Reply::Chosen { choices, words } => {
+            let pairs = out.as_chunks().0[..choices].iter();
+            let lines: String = pairs.map(line_of).collect();
+            format!("{lines}words {words}\n")
+        }
+    }
+}
+
+/// The program's line for a pair.
+fn line_of(pair: &[u32; 2]) -> String {
+    let [place, lift] = pair.map(payload_of);
+    let (round, outcome) = place_of(place);
+    format!("{round} {lift} {outcome}\n")
+}

@@ -1,0 +1,677 @@
+//! Compares the archive's choice for a whole sheet with the reference: the document's cases, its traps and seeded sheets. The archive's shares are exact.
+
+use harness::reference::{choose_by, donors, new_rounds, new_sum, old_sum};
+use harness::reference::{read_sheet, write_sheet, Reply, Round, Sheet, SheetLift};
+use harness::seeded::Seeded;
+use harness::sheets::{add_round_words, add_sheet_words, damaged_sheet, fitting_lifts};
+use harness::sheets::{held, lift, numbered, Place, EXAMPLE, NONE};
+use harness::ways::{step, Drawn, Weights};
+use harness::{archive, reference};
+use std::collections::BTreeSet;
+
+/// What is lent for a choice: the output's length stands for the output.
+#[derive(Clone, Copy, Debug)]
+struct Lent<'a> {
+    sheet: &'a [u32],
+    words: &'a [u64],
+    start: usize,
+    out_len: usize,
+}
+
+/// A choice for a whole sheet.
+type Chooser = fn(&[u32], &[u64], usize, &mut [u32]) -> Reply;
+
+/// How many words on either side of the output are not lent.
+const MARGIN: usize = 4;
+
+/// What the words on both sides of the output and in it hold before the call: each is different.
+fn marks(out_len: usize) -> Vec<u32> {
+    let marks = (0xA5A5_0000..).take(out_len + 2 * MARGIN);
+    marks.collect()
+}
+
+/// The reply, and the output with the words on both sides of it.
+fn run(choose: Chooser, lent: Lent) -> (Reply, Vec<u32>) {
+    let mut all = marks(lent.out_len);
+    let out = &mut all[MARGIN..MARGIN + lent.out_len];
+    let reply = choose(lent.sheet, lent.words, lent.start, out);
+    (reply, all)
+}
+
+/// A reply and an output on which archive and reference agree; nothing but the pairs is written.
+fn agreed_output(lent: Lent) -> (Reply, Vec<u32>) {
+    let (expected, expected_all) = run(reference::choose_panel, lent);
+    let (reply, all) = run(archive::choose_panel, lent);
+    assert_eq!(reply, expected, "{lent:08X?}");
+    assert_eq!(all, expected_all, "{lent:08X?}");
+    let written = match reply {
+        Reply::Chosen { choices, .. } => MARGIN..MARGIN + 2 * choices,
+        Reply::Refused { .. } => 0..0,
+    };
+    let mut kept = marks(lent.out_len);
+    kept[written.clone()].copy_from_slice(&all[written.clone()]);
+    assert_eq!(all, kept, "{lent:08X?}");
+    (reply, all[written].to_vec())
+}
+
+/// A reply on which archive and reference agree, their outputs too.
+fn agreed(lent: Lent) -> Reply {
+    agreed_output(lent).0
+}
+
+/// So many choices with so many words read.
+fn chosen(choices: usize, words: usize) -> Reply {
+    Reply::Chosen { choices, words }
+}
+
+/// Refused by this number at this place.
+fn refused(number: u32, place: usize) -> Reply {
+    Reply::Refused { number, place }
+}
+
+/// A round, its chosen lift and the outcome.
+type Choice = (u32, u32, u32);
+
+/// The output's words for these choices.
+fn pairs(choices: &[Choice]) -> Vec<u32> {
+    let pair = |&(round, lift, outcome): &Choice| [5 << 28 | round << 21 | outcome, 6 << 28 | lift];
+    choices.iter().flat_map(pair).collect()
+}
+
+/// Checks a sheet's choices from words that just suffice, and what comes of more and of less being lent.
+fn check(name: &str, sheet: &[u32], words: &[u64], choices: &[Choice]) {
+    let (count, out_len) = (choices.len(), 2 * choices.len());
+    let lent = Lent {
+        sheet,
+        words,
+        start: 0,
+        out_len,
+    };
+    let expected = (chosen(count, words.len()), pairs(choices));
+    assert_eq!(agreed_output(lent), expected, "{name}");
+    let more = [&[7, u64::MAX], words, &[0, 1]].concat();
+    let more = Lent {
+        words: &more,
+        start: 2,
+        out_len: out_len + 3,
+        ..lent
+    };
+    assert_eq!(agreed_output(more), expected, "{name}");
+    for end in 0..words.len() {
+        let words = &words[..end];
+        let reply = agreed(Lent { words, ..lent });
+        assert!(
+            matches!(reply, Reply::Refused { number: 13, .. }),
+            "{name}: {reply:?}"
+        );
+    }
+    for out_len in 0..out_len {
+        let reply = agreed(Lent { out_len, ..lent });
+        assert_eq!(reply, refused(12, 2 * count), "{name}");
+    }
+    let start = words.len() + 1;
+    let behind = Lent { start, ..lent };
+    assert_eq!(agreed(behind), refused(11, start), "{name}");
+}
+
+/// A case of the document, in new round 1 with old rounds 1 and 2.
+struct Case {
+    name: &'static str,
+    lifts: Vec<SheetLift>,
+    words: Vec<u64>,
+    /// The chosen lift's place among the lifts.
+    place: u32,
+    outcome: u32,
+}
+
+/// The case of these lifts, of which those at the places of `marked` are held.
+fn case(
+    name: &'static str,
+    (lifts, marked): (&[SheetLift], &[usize]),
+    words: &[u64],
+    place: u32,
+    outcome: u32,
+) -> Case {
+    let mut lifts = lifts.to_vec();
+    marked.iter().for_each(|&place| lifts[place].held = true);
+    Case {
+        name,
+        lifts,
+        words: words.to_vec(),
+        place,
+        outcome,
+    }
+}
+
+/// M1 to M11; M4 and M5 as a fresh choice among three newcomers.
+fn worked_cases() -> Vec<Case> {
+    let three = [(2, 4), (3, 1), (5, 5)].map(|(old, new)| lift((1, old), (1, new)));
+    let newcomers = [lift(NONE, (1, 1)); 3];
+    let two = [
+        lift((1, 1), (1, 1)),
+        lift((2, 3), (1, 1)),
+        lift((1, 3), NONE),
+        lift((2, 3), NONE),
+    ];
+    let no_chance = [lift((1, 3), (1, 0)), lift((1, 7), (1, 1))];
+    vec![
+        case("M1", (&three, &[1]), &[9], 1, 1),
+        case("M2", (&three, &[1]), &[10, 0], 0, 2),
+        case("M3", (&three, &[2]), &[], 2, 1),
+        case("M4", (&newcomers, &[]), &[u64::MAX, 7], 1, 3),
+        case("M5", (&newcomers, &[]), &[u64::MAX - 1], 2, 3),
+        case("M6", (&two, &[0, 1]), &[11], 0, 1),
+        case("M7", (&two, &[0, 1]), &[12, 17], 1, 1),
+        case("M8", (&two, &[0, 1]), &[12, 18, 5], 0, 1),
+        case("M9", (&two, &[2, 3]), &[1], 1, 3),
+        case("M10", (&two, &[2, 1]), &[18, 0], 0, 2),
+        case("M11 lowest", (&no_chance, &[0]), &[0, 0], 1, 2),
+        case("M11 highest", (&no_chance, &[0]), &[2, 2], 1, 2),
+    ]
+}
+
+#[test]
+fn example_is_chosen() {
+    check("example", &EXAMPLE, &[10, 0], &[(1, 11, 2)]);
+}
+
+#[test]
+fn worked_cases_alone() {
+    for case in worked_cases() {
+        let sheet = write_sheet(&numbered(&case.lifts, 11));
+        let choices = [(1, 11 + case.place, case.outcome)];
+        check(case.name, &sheet, &case.words, &choices);
+    }
+}
+
+/// A case's lifts in another new round and in old rounds higher by so many; round 0 stays.
+fn moved(lifts: &[SheetLift], old_by: u32, new_round: u32) -> Vec<SheetLift> {
+    let moved = |lift: &SheetLift| SheetLift {
+        old_round: lift.old_round + old_by * lift.old_round.min(1),
+        new_round: new_round * lift.new_round,
+        ..*lift
+    };
+    lifts.iter().map(moved).collect()
+}
+
+#[test]
+fn worked_cases_together() {
+    let mut lifts = Vec::new();
+    let mut choices = Vec::new();
+    let mut words = Vec::new();
+    for (place, case) in (0..).zip(worked_cases()) {
+        // The later the case, the lower its new round and the higher its old ones.
+        let new_round = 100 - 8 * place;
+        choices.push((new_round, lifts.len() as u32 + 1 + case.place, case.outcome));
+        words.push(case.words);
+        lifts.extend(moved(&case.lifts, 50 + 2 * place, new_round));
+    }
+    choices.reverse();
+    words.reverse();
+    let sheet = write_sheet(&numbered(&lifts, 1));
+    check("together", &sheet, &words.concat(), &choices);
+}
+
+/// The reply to the sheet of lifts numbered from 1 up, with room for any choices.
+fn agreed_on(lifts: &[SheetLift], words: &[u64], start: usize) -> Reply {
+    agreed(Lent {
+        sheet: &write_sheet(&numbered(lifts, 1)),
+        words,
+        start,
+        out_len: 200,
+    })
+}
+
+#[test]
+fn sheets_without_new_rounds_have_no_choices() {
+    check("no lifts", &[0xF000_0000], &[], &[]);
+    let withdrawn = [held((1, 1), NONE), lift((1, 9), NONE), lift(NONE, NONE)];
+    check(
+        "withdrawn",
+        &write_sheet(&numbered(&withdrawn, 1)),
+        &[],
+        &[],
+    );
+    assert_eq!(agreed_on(&[], &[5, 6], 2), chosen(0, 0));
+    assert_eq!(agreed_on(&[], &[5, 6], 3), refused(11, 3));
+}
+
+#[test]
+fn start_may_be_the_end() {
+    let shrinking = [held((1, 2), (1, 1)), lift((1, 1), (1, 2))];
+    let growing = [lift((1, 2), (1, 1)), held((1, 1), (1, 2))];
+    assert_eq!(agreed_on(&growing, &[5, 6], 2), chosen(1, 0));
+    assert_eq!(agreed_on(&shrinking, &[5, 6], 2), refused(13, 1));
+    for start in [3, 4, 1 << 32, 1 << 63, usize::MAX] {
+        assert_eq!(agreed_on(&growing, &[5, 6], start), refused(11, start));
+        assert_eq!(agreed_on(&shrinking, &[5, 6], start), refused(11, start));
+    }
+}
+
+#[test]
+fn long_lists_are_read_to_their_end() {
+    let mut words = vec![u64::MAX; 70_000];
+    words.extend([10, 0]);
+    for start in [0, 7, 69_999, 70_000] {
+        let lent = Lent {
+            sheet: &EXAMPLE,
+            words: &words,
+            start,
+            out_len: 2,
+        };
+        let expected = (chosen(1, words.len() - start), pairs(&[(1, 11, 2)]));
+        assert_eq!(agreed_output(lent), expected);
+        let (_, fewer) = words.split_last().expect("there are words");
+        let short = Lent {
+            words: fewer,
+            ..lent
+        };
+        assert_eq!(agreed(short), refused(13, 1));
+    }
+}
+
+#[test]
+fn refusals_come_in_order() {
+    let mut lent = Lent {
+        sheet: &EXAMPLE[1..],
+        words: &[10],
+        start: 2,
+        out_len: 1,
+    };
+    assert_eq!(agreed(lent), refused(2, 0));
+    lent.sheet = &EXAMPLE;
+    assert_eq!(agreed(lent), refused(11, 2));
+    lent.start = 1;
+    assert_eq!(agreed(lent), refused(12, 2));
+    lent.out_len = 2;
+    assert_eq!(agreed(lent), refused(13, 1));
+    lent.start = 0;
+    assert_eq!(agreed(lent), refused(13, 1));
+    lent.words = &[10, 0];
+    assert_eq!(agreed(lent), chosen(1, 2));
+}
+
+#[test]
+fn limits_pass() {
+    let top = 1_048_576;
+    let sums = |last| [held((1, top - 1), (1, 1)), lift((1, 1), (1, last))];
+    let largest = write_sheet(&numbered(&sums(top - 1), 1));
+    check("largest", &largest, &[u64::from(top), 0], &[(1, 2, 2)]);
+    check("largest", &largest, &[u64::from(top) - 1], &[(1, 1, 1)]);
+    assert_eq!(agreed_on(&sums(top), &[0, 0], 0), refused(8, 1));
+    let in_round = |round| [held((round, 1), (round, 1))];
+    let highest = write_sheet(&numbered(&in_round(100), 1));
+    check("round 100", &highest, &[], &[(100, 1, 1)]);
+    assert_eq!(agreed_on(&in_round(101), &[], 0), refused(4, 1));
+    let sent = [3, 2, 1].map(|old_round| held((old_round, 1), (9, 1)));
+    assert_eq!(agreed_on(&sent[1..], &[0, 0, 0], 0), chosen(1, 1));
+    assert_eq!(agreed_on(&sent, &[0, 0, 0], 0), refused(10, 9));
+}
+
+#[test]
+fn held_lift_of_a_split_round_is_in_one_part() {
+    // Old round 5 of sum 10 goes to 3 and 4; its held lift is in 4 and shrinks there.
+    let lifts = [
+        lift((5, 2), (3, 4)),
+        lift((5, 3), (4, 3)),
+        lift((5, 1), (3, 1)),
+        held((5, 4), (4, 1)),
+    ];
+    let sheet = write_sheet(&numbered(&lifts, 1));
+    check("kept", &sheet, &[4, 6], &[(3, 3, 3), (4, 4, 1)]);
+    check("dropped", &sheet, &[3, 7, 8], &[(3, 1, 3), (4, 2, 2)]);
+}
+
+/// A sheet that fits, words that just suffice from the start on, and each word's new round.
+struct Script {
+    lifts: Vec<SheetLift>,
+    sheet: Vec<u32>,
+    rounds: usize,
+    words: Vec<u64>,
+    start: usize,
+    round_of_word: Vec<u32>,
+}
+
+impl Script {
+    /// For these lifts.
+    fn new(seeded: &mut Seeded, lifts: Vec<SheetLift>) -> Script {
+        let sheet = write_sheet(&lifts);
+        let read = read_sheet(&sheet).expect("the sheet fits");
+        let mut words: Vec<u64> = (0..seeded.index(3)).map(|_| seeded.word()).collect();
+        let start = words.len();
+        let round_of_word = add_sheet_words(seeded, &read, &mut words);
+        Script {
+            lifts,
+            sheet,
+            rounds: read.new_rounds.len(),
+            words,
+            start,
+            round_of_word,
+        }
+    }
+
+    /// What is lent for the choice: words and output just suffice.
+    fn lent(&self) -> Lent<'_> {
+        Lent {
+            sheet: &self.sheet,
+            words: &self.words,
+            start: self.start,
+            out_len: 2 * self.rounds,
+        }
+    }
+
+    /// Checks that the first so many words do not suffice, and gives the round that lacks one.
+    fn check_short(&self, count: usize) -> u32 {
+        let words = &self.words[..count];
+        let round = self.round_of_word[count];
+        let reply = agreed(Lent {
+            words,
+            ..self.lent()
+        });
+        assert_eq!(reply, refused(13, round as usize));
+        round
+    }
+
+    /// Checks that the words just suffice and that more words behind them change nothing.
+    fn check_whole(&self, seeded: &mut Seeded) {
+        let exact = agreed_output(self.lent());
+        let read = self.words.len() - self.start;
+        assert_eq!(exact.0, chosen(self.rounds, read));
+        let mut words = self.words.clone();
+        words.extend((0..1 + seeded.index(3)).map(|_| seeded.word()));
+        let more = Lent {
+            words: &words,
+            out_len: 2 * self.rounds + seeded.index(4),
+            ..self.lent()
+        };
+        assert_eq!(agreed_output(more), exact);
+    }
+}
+
+#[test]
+fn every_shorter_list_is_refused() {
+    let mut seeded = Seeded::new(10);
+    let mut short_rounds = BTreeSet::new();
+    for _ in 0..50_000 {
+        let count = seeded.index(13);
+        let lifts = fitting_lifts(&mut seeded, count, 6);
+        let script = Script::new(&mut seeded, lifts);
+        let counts = script.start..script.words.len();
+        short_rounds.extend(counts.map(|count| script.check_short(count)));
+        script.check_whole(&mut seeded);
+    }
+    assert!(short_rounds.into_iter().eq(1..=100));
+}
+
+/// The lifts of the longest sheet: 4,096 in 100 rounds of one donor each, whose held lifts shrink.
+fn longest() -> Vec<SheetLift> {
+    let round = |number: u32| number % 100 + 1;
+    let mut lifts: Vec<SheetLift> = (0..4_096)
+        .map(|number| lift((round(number), 25_000), (round(number + 7), 25_000)))
+        .collect();
+    for lift in &mut lifts[3_000..3_100] {
+        (lift.held, lift.new_measure) = (true, 1);
+    }
+    numbered(&lifts, 1)
+}
+
+#[test]
+fn longest_sheet_is_refused_short_in_every_round() {
+    let mut seeded = Seeded::new(14);
+    let script = Script::new(&mut seeded, longest());
+    assert_eq!((script.sheet.len(), script.rounds), (12_389, 100));
+    let counts = script.start..script.words.len();
+    let short_rounds: BTreeSet<u32> = counts.map(|count| script.check_short(count)).collect();
+    assert!(short_rounds.into_iter().eq(1..=100));
+    script.check_whole(&mut seeded);
+}
+
+#[test]
+fn full_sheets_agree() {
+    let mut seeded = Seeded::new(11);
+    for _ in 0..300 {
+        let count = 4_096 - seeded.index(20);
+        let lifts = fitting_lifts(&mut seeded, count, 1_500);
+        let script = Script::new(&mut seeded, lifts);
+        script.check_whole(&mut seeded);
+        let counts = script.start..script.words.len();
+        if !counts.is_empty() {
+            script.check_short(counts.start + seeded.index(counts.len()));
+            script.check_short(counts.end - 1);
+        }
+    }
+}
+
+/// Lifts of a sheet that fits: mostly few, at times hundreds, seldom up to the most.
+fn any_lifts(seeded: &mut Seeded) -> Vec<SheetLift> {
+    let (most_lifts, most_rounds) = match seeded.below(1_000) {
+        0..3 => (4_096, 1_500),
+        3..40 => (300, 100),
+        _ => (12, 6),
+    };
+    let count = seeded.index(most_lifts + 1);
+    fitting_lifts(seeded, count, most_rounds)
+}
+
+/// How many words are lent: mostly all, else fewer.
+fn any_count(seeded: &mut Seeded, count: usize) -> usize {
+    match seeded.below(4) {
+        0 => seeded.index(count + 1),
+        1 => count - count.min(1),
+        _ => count,
+    }
+}
+
+/// A start: mostly as it was, else in the list, at its end, behind it or far beyond.
+fn any_start(seeded: &mut Seeded, start: usize, count: usize) -> usize {
+    match seeded.below(16) {
+        0 => seeded.index(count + 1),
+        1 => count,
+        2 => count + 1 + seeded.index(3),
+        3 => usize::MAX - seeded.index(2),
+        4 => (1 << (32 + seeded.index(32))) + seeded.index(count + 1),
+        _ => start,
+    }
+}
+
+/// An output's length: mostly as needed, else more, one less, none or any less.
+fn any_out_len(seeded: &mut Seeded, needed: usize) -> usize {
+    match seeded.below(16) {
+        0..4 => needed + 1 + seeded.index(9),
+        4 => needed - needed.min(1),
+        5 => 0,
+        6 => seeded.index(needed + 1),
+        _ => needed,
+    }
+}
+
+/// The document's number, 0 for choices.
+fn number_of(reply: Reply) -> usize {
+    match reply {
+        Reply::Refused { number, .. } => number as usize,
+        Reply::Chosen { .. } => 0,
+    }
+}
+
+#[test]
+fn seeded_sheets_agree() {
+    let mut seeded = Seeded::new(12);
+    let mut counts = [0; 14];
+    for _ in 0..120_000 {
+        let lifts = any_lifts(&mut seeded);
+        let script = Script::new(&mut seeded, lifts);
+        let damaged = match seeded.below(2) {
+            0 => damaged_sheet(&mut seeded, script.lifts.clone(), 3),
+            _ => script.sheet.clone(),
+        };
+        let count = any_count(&mut seeded, script.words.len());
+        let lent = Lent {
+            sheet: &damaged,
+            words: &script.words[..count],
+            start: any_start(&mut seeded, script.start, count),
+            out_len: any_out_len(&mut seeded, 2 * script.rounds),
+        };
+        counts[number_of(agreed(lent))] += 1;
+    }
+    assert!(counts.iter().all(|&sheets| sheets >= 100), "{counts:?}");
+}
+
+/// A place of small measure in one of the rounds, seldom in none.
+fn small_place(seeded: &mut Seeded, rounds: &[u32]) -> Place {
+    let round = rounds[seeded.index(rounds.len())];
+    match seeded.below(6) {
+        0 => NONE,
+        _ => (round, seeded.below(3) as u32),
+    }
+}
+
+/// Lifts in up to four old rounds and three new ones, none held; with any marking the sheet may not fit.
+fn small_lifts(seeded: &mut Seeded) -> Vec<SheetLift> {
+    let old_rounds = &[65, 2, 100, 64][..2 + seeded.index(3)];
+    let new_rounds = &[64, 3, 99][..1 + seeded.index(3)];
+    let mut lifts = Vec::new();
+    for _ in 0..3 + seeded.index(5) {
+        let old = small_place(seeded, old_rounds);
+        lifts.push(lift(old, small_place(seeded, new_rounds)));
+    }
+    numbered(&lifts, 1)
+}
+
+/// Lifts with some held, and the product of the held lifts' old measures.
+type Marking = (Vec<SheetLift>, u128);
+
+/// All markings of the lifts.
+fn markings(lifts: &[SheetLift]) -> Vec<Marking> {
+    let old_rounds: BTreeSet<u32> = lifts.iter().map(|lift| lift.old_round).collect();
+    let mut markings = vec![(lifts.to_vec(), 1)];
+    for round in old_rounds.into_iter().filter(|&round| round > 0) {
+        let further = markings.iter().flat_map(|marking| mark(marking, round));
+        markings = further.collect();
+    }
+    markings
+}
+
+/// The markings that hold one lift of an old round further.
+fn mark((lifts, weight): &Marking, round: u32) -> Vec<Marking> {
+    let sent = lifts.iter().enumerate();
+    let sent = sent.filter(|(_, lift)| lift.old_round == round && lift.old_measure > 0);
+    let marked = sent.map(|(place, lift)| {
+        let mut lifts = lifts.clone();
+        lifts[place].held = true;
+        (lifts, weight * u128::from(lift.old_measure))
+    });
+    marked.collect()
+}
+
+/// The sheet read, if it fits with any marking, has two old rounds or more and no sum above 6.
+fn small_sheet(lifts: &[SheetLift]) -> Option<Sheet> {
+    let (marked, _) = markings(lifts).into_iter().next()?;
+    let sheet = read_sheet(&write_sheet(&marked)).ok()?;
+    let old_sums = sheet.old_rounds.values().map(|lifts| old_sum(lifts));
+    let new_sums = sheet.new_rounds.values().map(|lifts| new_sum(lifts));
+    let small = old_sums.chain(new_sums).all(|sum| sum <= 6);
+    (small && sheet.old_rounds.len() >= 2).then_some(sheet)
+}
+
+/// Adds words that give a round's draws these values, and 0 to further draws.
+fn add_given(round: &Round, draws: &mut Vec<Drawn>, words: &mut Vec<u64>) {
+    let mut made = 0;
+    let chosen = choose_by(round, &mut |bound| {
+        if made == draws.len() {
+            draws.push((bound, 0));
+        }
+        let (_, value) = draws[made];
+        made += 1;
+        words.push(value as u64);
+        Some(value)
+    });
+    chosen.expect("every draw is answered");
+}
+
+/// The archive's lift for the new round at this place, from words that just suffice.
+fn lift_chosen(sheet: &[u32], words: &[u64], rounds: usize, place: usize) -> u32 {
+    let mut out = vec![0; 2 * rounds];
+    let reply = archive::choose_panel(sheet, words, 0, &mut out);
+    assert_eq!(reply, chosen(rounds, words.len()));
+    out[2 * place + 1] - (6 << 28)
+}
+
+/// Calls `seen` with the archive's lift and the draws for all values of the draws of the new round at this place, any values being given to the others.
+fn all_ways(
+    seeded: &mut Seeded,
+    marked: &[SheetLift],
+    place: usize,
+    mut seen: impl FnMut(u32, &[Drawn]),
+) {
+    let sheet = write_sheet(marked);
+    let rounds = new_rounds(&read_sheet(&sheet).expect("the sheet fits"));
+    let mut draws = Vec::new();
+    loop {
+        let mut words = Vec::new();
+        for (other, new_round) in rounds.iter().enumerate() {
+            match other == place {
+                true => add_given(&new_round.round, &mut draws, &mut words),
+                false => add_round_words(seeded, &new_round.round, &mut words),
+            }
+        }
+        let lift = lift_chosen(&sheet, &words, rounds.len(), place);
+        seen(lift, &draws);
+        if !step(&mut draws) {
+            return;
+        }
+    }
+}
+
+/// Checks that the ways to each lift of each new round weigh exactly b over S, multiplied out, and counts them.
+fn check_shares(seeded: &mut Seeded, lifts: &[SheetLift], sheet: &Sheet) -> usize {
+    let mut ways = 0;
+    let old_sums = sheet.old_rounds.values().map(|lifts| old_sum(lifts));
+    let whole: u128 = old_sums.map(u128::from).product();
+    for (place, (&round, in_round)) in sheet.new_rounds.iter().enumerate() {
+        let mut weights = Weights::new(lifts.len());
+        for (marked, weight) in markings(lifts) {
+            all_ways(seeded, &marked, place, |lift, draws| {
+                weights.add(lift as usize - 1, weight, draws);
+                ways += 1;
+            });
+        }
+        let (weights, common) = weights.total();
+        for (lift, weight) in lifts.iter().zip(weights) {
+            let here = u32::from(lift.new_round == round);
+            let expected = whole * common * u128::from(here * lift.new_measure);
+            let weight = weight * u128::from(new_sum(in_round));
+            assert_eq!(weight, expected, "{lift:?} in {round} of {lifts:?}");
+        }
+    }
+    ways
+}
+
+/// Counts a sheet's new rounds with each marking, by their donors and their held lifts here.
+fn count_sorts(lifts: &[SheetLift], sheet: &Sheet, sorts: &mut [[usize; 3]; 3]) {
+    for (marked, _) in markings(lifts) {
+        for (&round, in_round) in &sheet.new_rounds {
+            let here = marked.iter().filter(|lift| lift.new_round == round);
+            let held = here.filter(|lift| lift.held).count();
+            sorts[donors(in_round).len()][held] += 1;
+        }
+    }
+}
+
+#[test]
+fn shares_are_exact() {
+    let mut seeded = Seeded::new(13);
+    let (mut sheets, mut ways) = (0, 0);
+    let mut sorts = [[0; 3]; 3];
+    while sheets < 60 {
+        let lifts = small_lifts(&mut seeded);
+        if let Some(sheet) = small_sheet(&lifts) {
+            ways += check_shares(&mut seeded, &lifts, &sheet);
+            count_sorts(&lifts, &sheet, &mut sorts);
+            sheets += 1;
+        }
+    }
+    assert!(ways >= 100_000, "{ways}");
+    let [[none, ..], [one @ .., _], two] = sorts;
+    let counts = [&[none][..], &one, &two].concat();
+    assert!(counts.iter().all(|&rounds| rounds >= 10), "{sorts:?}");
+}
