@@ -1,0 +1,218 @@
+-- What a panel's choices can be: the rounds are few, each number has its bound, and no more words are read than there are. By
+-- induction along the rounds, the lifts and the words. Assumes nothing.
+use Prim.Native.Nat.{ℕ, zero, suc, _+_, _*_, _-_, _%_, _^_, _≤_, _<_}
+use mathlib.Core.Path.{_≡_, refl, sym, ap}
+use mathlib.Core.Bool.{Bool, true, false, cond}
+use mathlib.Core.List.{List, [], _∷_}
+use native.Mathlib.Omega.{arith}
+use lib.Dec.{eqb, ltb}
+use lib.ListN.{length, getD, drop, length-drop}
+use borrow.Author.Tests.{ltb-false}
+use Rattle.laws.specs.Plan.{Plan, done, draw}
+use Rattle.draw.specs.Draw.{largest, K, drawFrom, drawAt}
+use Rattle.draw.specs.Run.{Run, finished, short as ended, drew, follow, run}
+use Rattle.draw.specs.declared.Drawn.{Drawn}
+use Rattle.draw.specs.declared.Drawn.the-variants.{Value, Short}
+use Rattle.round.specs.Choice.{Selection, isHeld, outcome}
+use Rattle.round.specs.declared.Held.{Held}
+use Rattle.sheet.specs.Sheet.{mostRounds, kind, liftKind, Lift, liftOf, lifts}
+use Rattle.sheet.specs.Reading.{numbered}
+use Rattle.sheet.specs.Rounds.{those, named, inUse, ofRound}
+use Rattle.sheet.specs.Refusal.{Verdict, refused, fits, verdict}
+use Rattle.sheet.specs.declared.Side.the-variants.{New}
+use Rattle.panel.specs.Choice.{heldIn, planOf, nobody, liftAt, Choice, Panel, chosen, short, preceded, andThen, panelFrom, panel, refusal, replied, ofPanel, ofLent, ofVerdict, reply}
+
+-- ---- lists whose elements have a property
+
+unfoldable pub Each : {A : Type 0} → (A → Type 0) → List A → Type 0
+Each P [] = Unit {0}
+Each P (x ∷ xs) = P x × Each P xs
+
+each-at : {A : Type 0} (P : A → Type 0) (default : A) → P default → (xs : List A) → Each P xs → (i : ℕ) → P (getD xs i default)
+unfolding Each
+each-at P default d [] e i = d
+each-at P default d (x ∷ xs) e zero = e .0
+each-at P default d (x ∷ xs) e (suc i) = each-at P default d xs (e .1) i
+
+-- ---- rounds
+
+those-le : (p : ℕ → Bool) (a n b : ℕ) → a + n ≤ b + 1 → Each (λ r. r ≤ b) (those p a n)
+unfolding those Each
+those-le p a zero b h = tt
+those-le p a (suc n) b h = go (p a) (those-le p (suc a) n b (omega arith))
+  where
+    go : (t : Bool) → Each (λ r. r ≤ b) (those p (suc a) n) → Each (λ r. r ≤ b) (cond t (a ∷ those p (suc a) n) (those p (suc a) n))
+    go true e = (omega arith, e)
+    go false e = e
+
+those-few : (p : ℕ → Bool) (a n : ℕ) → length (those p a n) ≤ n
+unfolding those
+those-few p a zero = omega arith
+those-few p a (suc n) = go (p a) (those-few p (suc a) n)
+  where
+    go : (t : Bool) → length (those p (suc a) n) ≤ n → length (cond t (a ∷ those p (suc a) n) (those p (suc a) n)) ≤ suc n
+    go true e = omega arith
+    go false e = omega arith
+
+-- ---- lift numbers
+
+-- numbers as payloads tell them
+abbrev Small : Lift → Type 0
+Small l = l .number < 2 ^ 28
+
+small-lifts : (ws : List ℕ) → Each Small (lifts ws)
+unfolding lifts Each
+small-lifts [] = tt
+small-lifts (w ∷ ws) = go (eqb (kind w) liftKind) (small-lifts ws)
+  where
+    go : (t : Bool) → Each Small (lifts ws) → Each Small (cond t (liftOf (w ∷ ws) ∷ lifts ws) (lifts ws))
+    go true e = (omega arith, e)
+    go false e = e
+
+small-round : (r : ℕ) (ls : List Lift) → Each Small ls → Each Small (ofRound r ls)
+unfolding ofRound Each
+small-round r [] e = tt
+small-round r (l ∷ ls) e = go (eqb (l .new .round) r) (small-round r ls (e .1))
+  where
+    go : (t : Bool) → Each Small (ofRound r ls) → Each Small (cond t (l ∷ ofRound r ls) (ofRound r ls))
+    go true s = (e .0, s)
+    go false s = s
+
+small-at : (r : ℕ) (ls : List Lift) → Each Small ls → (i : ℕ) → Small (liftAt r ls i)
+unfolding liftAt
+small-at r ls e i = each-at Small nobody (omega arith) (ofRound r ls) (small-round r ls e) i
+
+-- ---- outcomes
+
+outcome-le : (h : Held) (s : Selection) → outcome h s ≤ 3
+unfolding outcome
+outcome-le h s = go (isHeld h (s .place)) (s .dropped)
+  where
+    go : (t u : Bool) → cond t 1 (cond u 2 3) ≤ 3
+    go true u = omega arith
+    go false true = omega arith
+    go false false = omega arith
+
+-- ---- words read
+
+drawn-le : (m b i : ℕ) (ws : List ℕ) {v next : ℕ} → drawFrom m b i ws ≡ Value v next → next ≤ i + length ws
+unfolding drawFrom
+drawn-le m b i [] e = let z : _≡_ {A = ℕ} 0 1 = cc in absurd (omega arith)
+drawn-le m b i (w ∷ ws) {v} {next} e = go (ltb w (K m b * b)) e (drawn-le m b (i + 1) ws)
+  where
+    go : (t : Bool) → cond t (Value (w % b) (i + 1)) (drawFrom m b (i + 1) ws) ≡ Value v next
+        → (drawFrom m b (i + 1) ws ≡ Value v next → next ≤ i + 1 + length ws) → next ≤ i + suc (length ws)
+    go true q r = let x : i + 1 ≡ next = cc in omega arith
+    go false q r = omega (arith, r q)
+
+run-le : {A : Type 0} (m : ℕ) (p : Plan A) (ws : List ℕ) (from : ℕ) {vs : List ℕ} {a : A} {next : ℕ} → from ≤ length ws
+    → run m ws from p ≡ finished vs a next → next ≤ length ws
+unfolding run
+run-le m (done x) ws from {vs} {a} {next} h e = let y : from ≡ next = cc in omega arith
+run-le {A} m (draw b k) ws from {vs} {a} {next} h e = go (drawAt m ws from b) refl e (λ v n us l. run-le m (k v) ws n {vs = us} l)
+  where
+    behind : (v : ℕ) (x : Run A) → drew v x ≡ finished vs a next → ((us : List ℕ) → x ≡ finished us a next → next ≤ length ws) → next ≤ length ws
+    behind v (finished us y n) q rest =
+        let s : y ≡ a = cc in let t : n ≡ next = cc in
+        rest us (rw (s, t))
+    behind v ended q rest = let z : _≡_ {A = ℕ} 0 1 = cc in absurd (omega arith)
+
+    go : (d : Drawn) → drawAt m ws from b ≡ d → follow d (λ v n. run m ws n (k v)) ≡ finished vs a next
+        → ((v n : ℕ) (us : List ℕ) → n ≤ length ws → run m ws n (k v) ≡ finished us a next → next ≤ length ws) → next ≤ length ws
+    go (Value v n) d q rest =
+        behind v (run m ws n (k v)) q (λ us. rest v n us (omega (arith, drawn-le m b from (drop from ws) d, length-drop from ws)))
+    go Short d q rest = let z : _≡_ {A = ℕ} 0 1 = cc in absurd (omega arith)
+
+-- ---- the panel
+
+-- a choice whose numbers have their bounds
+pub record Printable (c : Choice) : Type 0 where
+  pub round : c .round ≤ mostRounds
+  pub number : c .number < 2 ^ 28
+  pub outcome : c .outcome ≤ 3
+
+record Bounded (ws rs : List ℕ) (cs : List Choice) (next : ℕ) : Type 0 where
+  printable : Each Printable cs
+  many : length cs ≡ length rs
+  inside : next ≤ length ws
+
+bounded : (ls : List Lift) (ws : List ℕ) (from : ℕ) (rs : List ℕ) {cs : List Choice} {next : ℕ} → Each Small ls → Each (λ r. r ≤ mostRounds) rs
+    → from ≤ length ws → panelFrom ls ws from rs ≡ chosen cs next → Bounded ws rs cs next
+unfolding panelFrom Each
+bounded ls ws from [] {cs} {next} small le h e =
+    let x : cs ≡ [] = cc in let y : from ≡ next = cc in
+    record { printable = rw x tt; many = rw x; inside = omega arith }
+bounded ls ws from (r ∷ rs) {cs} {next} small le h e =
+    go (run largest ws from (planOf r ls)) refl e (λ n ds l. bounded ls ws n rs {cs = ds} small (le .1) l)
+  where
+    made : List ℕ → Selection → Choice
+    made vs s = record { round = r; number = liftAt r ls (s .place) .number; outcome = outcome (heldIn r ls) s; values = vs }
+
+    behind : (vs : List ℕ) (s : Selection) (p : Panel) → preceded (made vs s) p ≡ chosen cs next
+        → ((ds : List Choice) → p ≡ chosen ds next → Bounded ws rs ds next) → Bounded ws (r ∷ rs) cs next
+    behind vs s (chosen ds n) q rest =
+        let x : cs ≡ made vs s ∷ ds = cc in
+        let y : n ≡ next = cc in
+        let b = rest ds (ap (chosen ds) y) in
+        rw x (record {
+          printable = (record { round = le .0; number = small-at r ls small (s .place); outcome = outcome-le (heldIn r ls) s }, b .printable);
+          many = ap suc (b .many);
+          inside = b .inside;
+        })
+    behind vs s (short n) q rest = let z : _≡_ {A = ℕ} 0 1 = cc in absurd (omega arith)
+
+    go : (x : Run Selection) → run largest ws from (planOf r ls) ≡ x → andThen r ls x (λ n. panelFrom ls ws n rs) ≡ chosen cs next
+        → ((n : ℕ) (ds : List Choice) → n ≤ length ws → panelFrom ls ws n rs ≡ chosen ds next → Bounded ws rs ds next) → Bounded ws (r ∷ rs) cs next
+    go (finished vs s n) x q rest = behind vs s (panelFrom ls ws n rs) q (λ ds. rest n ds (run-le largest (planOf r ls) ws from h x))
+    go ended x q rest = let z : _≡_ {A = ℕ} 0 1 = cc in absurd (omega arith)
+
+-- ---- the reply
+
+-- the choices behind a reply that is no refusal
+pub record Made (sheet ws : List ℕ) (start n k : ℕ) : Type 0 where
+  pub choices : List Choice
+  pub next : ℕ
+  pub is : panel (lifts sheet) ws start ≡ chosen choices next
+  pub count : n ≡ length choices
+  pub read : k ≡ next - start
+  pub printable : Each Printable choices
+  pub few : n ≤ mostRounds
+  pub inside : next ≤ length ws
+
+pub made : (sheet ws : List ℕ) (start room : ℕ) {n k : ℕ} → reply sheet ws start room ≡ replied n k → Made sheet ws start n k
+unfolding reply
+made sheet ws start room {n} {k} e = judged (verdict sheet) e
+  where
+    ls : List Lift
+    ls = lifts sheet
+
+    told : (p : Panel) → panel ls ws start ≡ p → start ≤ length ws → ofPanel start p ≡ replied n k → Made sheet ws start n k
+    told (chosen cs next) h l q =
+        let b = bounded ls ws start (inUse New ls) (small-lifts sheet) (those-le (λ r. ltb 0 (named New r ls)) 1 mostRounds mostRounds (omega arith)) l h in
+        let x : length cs ≡ n = cc in
+        let y : next - start ≡ k = cc in
+        record {
+          choices = cs;
+          next = next;
+          is = h;
+          count = sym x;
+          read = sym y;
+          printable = b .printable;
+          few = omega (arith, b .many, those-few (λ r. ltb 0 (named New r ls)) 1 mostRounds);
+          inside = b .inside;
+        }
+    told (short r) h l q = let z : _≡_ {A = ℕ} 0 1 = cc in absurd (omega arith)
+
+    lent : (rounds : ℕ) → ofLent ls rounds ws start room ≡ replied n k → Made sheet ws start n k
+    lent rounds q = go (ltb (length ws) start) refl (ltb room (2 * rounds)) q
+      where
+        go : (t : Bool) → ltb (length ws) start ≡ t → (u : Bool)
+            → cond t (refusal (numbered 11 start)) (cond u (refusal (numbered 12 (2 * rounds))) (ofPanel start (panel ls ws start))) ≡ replied n k
+            → Made sheet ws start n k
+        go true h u q = let z : _≡_ {A = ℕ} 0 1 = cc in absurd (omega arith)
+        go false h true q = let z : _≡_ {A = ℕ} 0 1 = cc in absurd (omega arith)
+        go false h false q = told (panel ls ws start) refl (ltb-false _ _ h) q
+
+    judged : (v : Verdict) → ofVerdict v ls ws start room ≡ replied n k → Made sheet ws start n k
+    judged (refused x) q = let z : _≡_ {A = ℕ} 0 1 = cc in absurd (omega arith)
+    judged (fits m rounds) q = lent rounds q

@@ -1,0 +1,56 @@
+-- The whole text by its cases: the length, a refusal, the choices; and that the code's text is it and has room. Assumes nothing.
+use Prim.Native.Nat.{ℕ, _*_, _/_, _%_, _≤_, _<_}
+use mathlib.Core.Path.{_≡_, ap, _∙_}
+use mathlib.Core.List.{List, _++_}
+use native.Mathlib.Omega.{arith}
+use lib.ListN.{length, take}
+use borrow.Author.Tests.{eq-eqb, ne-eqb, lt-ltb, le-ltb}
+use Rattle.sheet.specs.Sheet.{mostRounds, longest}
+use Rattle.sheet.specs.Reading.{Numbered, numbered}
+use Rattle.panel.specs.Choice.{written, refusal, replied, reply, output}
+use Rattle.report.specs.Report.{mostWords, sheetWords, randomWords, lines, wordsLine, refusedLine, textOf, report, pairLines, textRoom}
+use Rattle.report.proofs.Choices.{made}
+use Rattle.report.proofs.Sizes.{chosen-le}
+use Rattle.report.proofs.Pairs.{pair-lines}
+
+-- ---- the length
+
+module _ (sheet : List ℕ) (size : ℕ) (words : List ℕ) where
+  pub report-odd : (size % 4 ≡ 0 → ⊥) → report sheet size words ≡ refusedLine (numbered 1 size)
+  unfolding report
+  report-odd h = rw (ne-eqb (size % 4) 0 h)
+
+  pub report-long : size % 4 ≡ 0 → longest < size / 4 → report sheet size words ≡ refusedLine (numbered 1 (size / 4))
+  unfolding report
+  report-long h l = rw (eq-eqb (size % 4) 0 h, lt-ltb longest (size / 4) l)
+
+  pub report-text : size % 4 ≡ 0 → size / 4 ≤ longest → report sheet size words ≡ textOf (sheetWords (take size sheet)) (randomWords words)
+  unfolding report
+  report-text h l = rw (eq-eqb (size % 4) 0 h, le-ltb longest (size / 4) l)
+
+-- ---- the reply
+
+pub text-refused : (sheet ws : List ℕ) {x : Numbered} → reply sheet ws 0 (2 * mostRounds) ≡ refusal x → textOf sheet ws ≡ refusedLine x
+unfolding textOf
+text-refused sheet ws e = rw e
+
+-- the text from the output words out, of n choices and k words read
+pub record Text (sheet ws : List ℕ) (n k : ℕ) (out : List ℕ) : Type 0 where
+  pub inside : 2 * n ≤ length out
+  pub is : pairLines (take (2 * n) out) ++ wordsLine k ≡ textOf sheet ws
+  pub room : length (pairLines (take (2 * n) out) ++ wordsLine k) ≤ textRoom
+
+module _ (sheet ws : List ℕ) {n k : ℕ} (e : reply sheet ws 0 (2 * mostRounds) ≡ replied n k) where
+  pub text-chosen : (out : List ℕ) {out′ : List ℕ} → length ws ≤ mostWords → length out ≡ 2 * mostRounds → length out′ ≡ length out
+      → out′ ≡ output sheet ws 0 out → Text sheet ws n k out′
+  unfolding textOf output
+  text-chosen out {out′} h l l′ o =
+      let m = made sheet ws 0 (2 * mostRounds) e in
+      let w : out′ ≡ written (m .choices) out = o ∙ rw (l, e, m .is) in
+      let p : pairLines (take (2 * n) out′) ≡ lines (m .choices) =
+      ap (λ i. pairLines (take (2 * i) out′)) (m .count) ∙ ap (λ l. pairLines (take (2 * length (m .choices)) l)) w ∙ pair-lines (m .choices) out (m .printable) in
+      record {
+        inside = omega (arith, m .few);
+        is = rw (p, e, m .is);
+        room = rw p (chosen-le (m .choices) k (m .printable) (omega (arith, m .few, m .count)) (omega (arith, m .read, m .inside)));
+      }

@@ -1,0 +1,57 @@
+-- How long the lines are: by their parts, and in bytes for the numbers that can stand there. Assumes nothing.
+use Prim.Native.Nat.{ℕ, _+_, _*_, _^_, _≤_, _<_}
+use mathlib.Core.Path.{_≡_, ap, _∙_}
+use mathlib.Core.List.{List, [], _∷_, _++_}
+use native.Mathlib.Omega.{arith}
+use lib.ListN.{length, length-append}
+use Rattle.sheet.specs.Sheet.{mostRounds}
+use Rattle.sheet.specs.Reading.{numbered}
+use Rattle.panel.specs.Choice.{Choice}
+use Rattle.report.specs.Report.{mostWords, decimal, field, space, LF, line, lines, wordsLabel, wordsLine, refusedLabel, refusedLine, textRoom}
+use Rattle.report.proofs.Decimals.{field-le}
+use Rattle.report.proofs.Choices.{Each, Printable}
+
+-- ---- by parts
+
+pub length-field : (n b : ℕ) → length (field n b) ≡ length (decimal n) + 1
+unfolding field
+length-field n b = length-append (decimal n) (b ∷ [])
+
+pub length-line : (round number outcome : ℕ)
+    → length (line round number outcome) ≡ length (field round space) + (length (field number space) + length (field outcome LF))
+unfolding line
+length-line round number outcome = rw (length-append, length-append)
+
+pub length-words : (n : ℕ) → length (wordsLine n) ≡ 6 + length (field n LF)
+unfolding wordsLine
+length-words n = length-append wordsLabel (field n LF)
+
+pub length-refused : (number place : ℕ) → length (refusedLine (numbered number place)) ≡ 8 + (length (field number space) + length (field place LF))
+unfolding refusedLine
+length-refused number place =
+    length-append refusedLabel (field number space ++ field place LF) ∙ ap (λ n. 8 + n) (length-append (field number space) (field place LF))
+
+-- ---- in bytes
+
+pub refused-le : (number place : ℕ) → number < 2 ^ 64 → place < 2 ^ 64 → length (refusedLine (numbered number place)) ≤ textRoom
+refused-le number place n p =
+    omega (arith, length-refused number place, field-le 19 number space (omega arith), field-le 19 place LF (omega arith))
+
+line-le : (c : Choice) → Printable c → length (line (c .round) (c .number) (c .outcome)) ≤ 16
+line-le c p =
+    omega (
+      arith,
+      length-line (c .round) (c .number) (c .outcome),
+      field-le 2 (c .round) space (omega (arith, p .round)),
+      field-le 8 (c .number) space (omega (arith, p .number)),
+      field-le 0 (c .outcome) LF (omega (arith, p .outcome)),
+    )
+
+lines-le : (cs : List Choice) → Each Printable cs → length (lines cs) ≤ 16 * length cs
+unfolding lines Each
+lines-le [] e = omega arith
+lines-le (c ∷ cs) e = rw length-append (omega (arith, line-le c (e .0), lines-le cs (e .1)))
+
+pub chosen-le : (cs : List Choice) (k : ℕ) → Each Printable cs → length cs ≤ mostRounds → k ≤ mostWords → length (lines cs ++ wordsLine k) ≤ textRoom
+chosen-le cs k e n h =
+    rw length-append (omega (arith, lines-le cs e, length-words k, field-le 3 k LF (omega arith)))

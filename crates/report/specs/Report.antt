@@ -1,0 +1,140 @@
+-- "The program" of document 01: from the bytes of both files to the printed text.
+use Prim.Native.Nat.{ℕ, zero, suc, _+_, _*_, _/_, _%_, _≤_}
+use mathlib.Core.Path.{_≡_}
+use mathlib.Core.Bool.{cond}
+use mathlib.Core.List.{List, [], _∷_, _++_}
+use lib.Dec.{eqb, ltb}
+use lib.ListN.{length, take, drop}
+use Rattle.sheet.specs.Sheet.{mostRounds, longest, payload, placeOf, lifts}
+use Rattle.sheet.specs.Reading.{Numbered, numbered}
+use Rattle.sheet.specs.Tables.{tabulate}
+use Rattle.panel.specs.Choice.{Choice, Panel, chosen, short, panel, Reply, refusal, replied, reply}
+
+-- ---- the files
+
+-- the number of some bytes, "little-endian": the lowest byte first
+unfoldable pub littleEndian : List ℕ → ℕ
+littleEndian [] = 0
+littleEndian (b ∷ bs) = b + 256 * littleEndian bs
+
+-- the word at place i, of `size` bytes
+abbrev pub wordAt : ℕ → List ℕ → ℕ → ℕ
+wordAt size bytes i = littleEndian (take size (drop (size * i) bytes))
+
+-- the words of `size` bytes: "an unfinished last word is ignored"
+unfoldable pub wordsOf : ℕ → List ℕ → List ℕ
+wordsOf size bytes = tabulate (length bytes / size) (wordAt size bytes)
+
+-- "sheet.bin (32-bit little-endian)"
+abbrev pub sheetWords : List ℕ → List ℕ
+sheetWords bytes = wordsOf 4 bytes
+
+-- "the first 4,096 words"
+abbrev pub mostWords : ℕ
+mostWords = 4096
+
+-- "words.bin (64-bit little-endian, the first 4,096 words; ..)"
+abbrev pub randomWords : List ℕ → List ℕ
+randomWords bytes = take mostWords (wordsOf 8 bytes)
+
+-- ---- numbers in the text
+
+-- a decimal digit in ASCII
+abbrev pub digit : ℕ → ℕ
+digit d = 48 + d
+
+-- the decimal digits of a number, at most k + 1 of them
+unfoldable pub digits : ℕ → ℕ → List ℕ
+digits zero n = digit n ∷ []
+digits (suc k) n = cond (ltb n 10) (digit n ∷ []) (digits k (n / 10) ++ (digit (n % 10) ∷ []))
+
+-- a number in decimal, with no zeros in front: a number n has at most n + 1 digits
+unfoldable pub decimal : ℕ → List ℕ
+decimal n = digits n n
+
+-- a number and a byte behind it
+unfoldable pub field : ℕ → ℕ → List ℕ
+field n behind = decimal n ++ (behind ∷ [])
+
+-- ---- lines
+
+-- a space in ASCII
+abbrev pub space : ℕ
+space = 32
+
+-- "LF" in ASCII
+abbrev pub LF : ℕ
+LF = 10
+
+-- "`round lift outcome`", "each line ends with LF"
+unfoldable pub line : ℕ → ℕ → ℕ → List ℕ
+line round number outcome = field round space ++ (field number space ++ field outcome LF)
+
+-- "It prints `round lift outcome` per choice"
+unfoldable pub lines : List Choice → List ℕ
+lines [] = []
+lines (c ∷ cs) = line (c .round) (c .number) (c .outcome) ++ lines cs
+
+-- the letters of "words", and a space
+abbrev pub wordsLabel : List ℕ
+wordsLabel = 119 ∷ 111 ∷ 114 ∷ 100 ∷ 115 ∷ space ∷ []
+
+-- "then `words N`"
+unfoldable pub wordsLine : ℕ → List ℕ
+wordsLine n = wordsLabel ++ field n LF
+
+-- the letters of "refused", and a space
+abbrev pub refusedLabel : List ℕ
+refusedLabel = 114 ∷ 101 ∷ 102 ∷ 117 ∷ 115 ∷ 101 ∷ 100 ∷ space ∷ []
+
+-- "or `refused N place`"
+unfoldable pub refusedLine : Numbered → List ℕ
+refusedLine x = refusedLabel ++ (field (x .number) space ++ field (x .place) LF)
+
+-- ---- the whole text
+
+-- what is printed of a reply and the choices
+abbrev pub printed : Reply → List Choice → List ℕ
+printed (refusal x) cs = refusedLine x
+printed (replied n k) cs = lines cs ++ wordsLine k
+
+-- the choices of a panel
+abbrev pub choicesOf : Panel → List Choice
+choicesOf (chosen cs next) = cs
+choicesOf (short r) = []
+
+-- the text of a sheet and random words: "starting at 0", with an output that every sheet's choices fit
+unfoldable pub textOf : List ℕ → List ℕ → List ℕ
+textOf sheet ws = printed (reply sheet ws 0 (2 * mostRounds)) (choicesOf (panel (lifts sheet) ws 0))
+
+-- the whole text, from the sheet's bytes, its true length in bytes, and the bytes of the words: "A sheet of bytes not divisible by 4,
+-- however long, is refusal 1 with its byte length as place."
+unfoldable pub report : List ℕ → ℕ → List ℕ → List ℕ
+report sheet size words =
+    cond (eqb (size % 4) 0)
+    (cond (ltb longest (size / 4)) (refusedLine (numbered 1 (size / 4)))
+    (textOf (sheetWords (take size sheet)) (randomWords words)))
+    (refusedLine (numbered 1 size))
+
+-- ---- as the code writes it
+
+-- the lines of output words, two for each choice: "kind 5 (upper 7 bits round, lower 21 outcome), kind 6 (lift number)"
+unfoldable pub pairLines : List ℕ → List ℕ
+pairLines [] = []
+pairLines (w ∷ []) = []
+pairLines (w ∷ v ∷ ws) = line (placeOf w .round) (payload v) (placeOf w .measure) ++ pairLines ws
+
+-- room for every text
+abbrev pub textRoom : ℕ
+textRoom = 2048
+
+-- the words ws stand first among some words, n of them
+pub record Decoded (ws words : List ℕ) (n : ℕ) : Type 0 where
+  pub is : take n words ≡ ws
+  pub count : n ≡ length ws
+  pub fits : n ≤ length words
+
+-- the text old, in which new was written from a position on, and the position behind it
+pub record Appended (old : List ℕ) (from : ℕ) (new text : List ℕ) (next : ℕ) : Type 0 where
+  pub is : text ≡ take from old ++ (new ++ drop (from + length new) old)
+  pub ends : next ≡ from + length new
