@@ -21,19 +21,19 @@ use Rattle.round.specs.declared.Held.{Held}
 use Rattle.round.specs.declared.Donors.the-variants.{One}
 use Rattle.round.proofs.Shares.{shares as round-shares}
 use Rattle.round.proofs.Keeping.{keeps as round-keeps}
-use Rattle.sheet.specs.Sheet.{mostRounds, Lift, lifts}
+use Rattle.sheet.specs.Sheet.{mostRounds, Lift, lifts, sheetOf}
 use Rattle.sheet.specs.Rounds.{those, named, inUse, sumOf, donors, ofRound}
 use Rattle.sheet.specs.Law.{Fitting}
 use Rattle.sheet.specs.declared.Side.the-variants.{Old, New}
 use Rattle.panel.specs.Choice.{donorNumber, donorsOf, liftsOf, heldIn, planOf, nobody, liftAt}
 use Rattle.panel.specs.Initial.{marked}
 use Rattle.panel.specs.Fair.{share, kept, FairTheorem}
-use Rattle.panel.proofs.Marks.{donorsOf-marked, liftsOf-marked}
+use Rattle.panel.proofs.Marks.{inUse-marked, donorsOf-marked, liftsOf-marked}
 use Rattle.panel.proofs.RoundsFit.{S-round, round-fits}
 use Rattle.panel.proofs.Weighing.{selections-ext, weight-ext, weight-den}
 use Rattle.panel.proofs.Following.{carries}
 use Rattle.panel.proofs.Selections.{transfer, whole}
-use Rattle.panel.proofs.MarkedFits.{marked-fits, flags}
+use Rattle.panel.proofs.MarkedFits.{back, marked-fits, flags}
 
 -- a round in use passes the test, within the bounds
 mem-those : (p : ℕ → Bool) (a n r : ℕ) → List·Memᴰ r (those p a n) → (p r ≡ true) × (a ≤ r) × (r < a + n)
@@ -111,6 +111,12 @@ module _ {ws : List ℕ} (f : Fitting ws) {r : ℕ} (low : 1 ≤ r) (high : r �
       let m : kept ls r ≈ roundKept (One (sumOf Old t ls)) (liftsOf r ls) = rw o at kept-moved in
       ≲-≈ (rw (length-lifts r ls) at k) (⊗-≈ (≈-refl (omega arith)) (≈-sym m))
 
+-- where a list has a number above 0, it has a place
+at-inside : (ns : List ℕ) (i : ℕ) → 0 < getD ns i 0 → i < length ns
+at-inside [] i h = absurd (omega arith)
+at-inside (n ∷ ns) zero h = omega arith
+at-inside (n ∷ ns) (suc i) h = omega (arith, at-inside ns i h)
+
 pub fair : FairTheorem
 fair ws f =
     record {
@@ -120,7 +126,9 @@ fair ws f =
           let high : r ≤ mostRounds = omega (arith, q .2) in
           record {
             shares = fair-shares f (q .1) high some;
-            runs = λ m k p n words start next cs e c i er ev. carries (marked m (lifts ws)) words start (inUse New (marked m (lifts ws))) next cs e r p n c i er ev;
+            runs = λ m d′ p n words start out k j e i er ev.
+                carries (sheetOf (marked m (lifts ws))) (back ws f m d′) words start out e i
+                (rw (inUse-marked m New (lifts ws)) (at-inside (inUse New (lifts ws)) i (rw er (omega (arith, q .1))))) (rw (inUse-marked m New (lifts ws)) er) p n ev;
             keeps = fair-keeps f (q .1) high some;
           };
       fits = marked-fits ws f;

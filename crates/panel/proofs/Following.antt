@@ -1,59 +1,90 @@
--- A run of the whole choice follows, in each round, a path of that round's plan: where the values are a path's, its lift is chosen.
-use Prim.Native.Nat.{ℕ}
-use mathlib.Core.Path.{_≡_, refl, ap}
-use mathlib.Core.Logic.{⊎-elim}
-use mathlib.Core.List.{List, [], _∷_, List·Memᴰ, List·Memᴰ·not-nil, List·Memᴰ·cases-cons}
+-- A run of the whole choice follows, in each round, a path of that round's plan: where the values are a path's, the pair written for
+-- the round has the path's lift and outcome.
+use Prim.Native.Nat.{ℕ, zero, suc, _+_, _*_, _<_}
+use mathlib.Core.Path.{_≡_, refl, ap, _∙_}
+use mathlib.Core.List.{List, [], _∷_, map, List·Memᴰ}
 use native.Mathlib.Omega.{arith}
+use lib.ListN.{length, getD, drop}
+use lib.Seq.{slice}
 use Rattle.laws.specs.Plan.{Path, paths}
 use Rattle.draw.specs.Draw.{largest}
 use Rattle.draw.specs.Run.{Run, finished, short as ended, run}
 use Rattle.draw.proofs.Runs.{follows}
 use Rattle.round.specs.Choice.{Selection, outcome}
-use Rattle.sheet.specs.Sheet.{Lift}
-use Rattle.panel.specs.Choice.{heldIn, planOf, liftAt, Choice, Panel, chosen, short, preceded, andThen, panelFrom}
-use Rattle.panel.specs.Fair.{Carries}
+use Rattle.sheet.specs.Sheet.{Lift, lifts}
+use Rattle.sheet.specs.Rounds.{inUse}
+use Rattle.sheet.specs.declared.Side.the-variants.{New}
+use Rattle.panel.specs.Choice.{heldIn, planOf, liftAt, Choice, Panel, chosen, short, preceded, andThen, panelFrom, panel, replied, reply, pair, pairOf, written, output}
+use Rattle.panel.specs.Fair.{draws}
+use Rattle.panel.proofs.Replies.{Ran, ran}
 
 -- what a finished run of round r chooses
 abbrev made : ℕ → List Lift → List ℕ → Selection → Choice
 made r ls vs s = record { round = r; number = liftAt r ls (s .place) .number; outcome = outcome (heldIn r ls) s; values = vs }
 
--- a choice comes from a run of its round's plan
-record Comes (ls : List Lift) (ws : List ℕ) (c : Choice) : Type 0 where
+-- the pair of a finished run of round r
+abbrev pub pairFor : ℕ → List Lift → Selection → List ℕ
+pairFor r ls s = pair r (liftAt r ls (s .place) .number) (outcome (heldIn r ls) s)
+
+-- the i-th pair comes from a run of round r's plan
+record Comes (ls : List Lift) (ws : List ℕ) (cs : List Choice) (i r : ℕ) : Type 0 where
   from : ℕ
   next : ℕ
   result : Selection
-  ran : run largest ws from (planOf (c .round) ls) ≡ finished (c .values) result next
-  number : c .number ≡ liftAt (c .round) ls (result .place) .number
-  outcome : c .outcome ≡ outcome (heldIn (c .round) ls) result
+  drew : run largest ws from (planOf r ls) ≡ finished (getD (map (λ c. c .values) cs) i []) result next
+  wrote : (out : List ℕ) → slice (2 * i) (2 * i + 2) (written cs out) ≡ pairFor r ls result
+
+-- the pairs behind the first one
+slice-behind : (c : Choice) (cs : List Choice) (out : List ℕ) (i : ℕ) → slice (2 * suc i) (2 * suc i + 2) (written (c ∷ cs) out) ≡ slice (2 * i) (2 * i + 2) (written cs (drop 2 out))
+unfolding written
+slice-behind c cs out i =
+    let a : 2 * suc i ≡ suc (suc (2 * i)) = omega arith in
+    let b : 2 * suc i + 2 ≡ suc (suc (2 * i + 2)) = omega arith in
+    rw (b, a)
 
 come : (ls : List Lift) (ws : List ℕ) (from : ℕ) (rs : List ℕ) (next : ℕ) (cs : List Choice) → panelFrom ls ws from rs ≡ chosen cs next
-    → (c : Choice) → List·Memᴰ c cs → Comes ls ws c
-unfolding panelFrom
-come ls ws from [] next cs e c d = let q : cs ≡ [] = cc in absurd (List·Memᴰ·not-nil (rw q at d))
-come ls ws from (r ∷ rs) next cs e c d = go (run largest ws from (planOf r ls)) refl e (λ n ds. come ls ws n rs next ds)
+    → (i : ℕ) → i < length rs → Comes ls ws cs i (getD rs i 0)
+unfolding panelFrom written
+come ls ws from [] next cs e i h = absurd (omega arith)
+come ls ws from (r ∷ rs) next cs e i h = go (run largest ws from (planOf r ls)) refl e (λ n ds. come ls ws n rs next ds)
   where
+    at : (vs : List ℕ) (s : Selection) (n : ℕ) → run largest ws from (planOf r ls) ≡ finished vs s n → (ds : List Choice)
+        → ((j : ℕ) → j < length rs → Comes ls ws ds j (getD rs j 0)) → (i : ℕ) → i < suc (length rs) → Comes ls ws (made r ls vs s ∷ ds) i (getD (r ∷ rs) i 0)
+    at vs s n q ds rest zero l = record { from = from; next = n; result = s; drew = q; wrote = λ out. refl }
+    at vs s n q ds rest (suc i) l =
+        let k = rest i (omega arith) in
+        record {
+          from = k .from;
+          next = k .next;
+          result = k .result;
+          drew = k .drew;
+          wrote = λ out. slice-behind (made r ls vs s) ds out i ∙ k .wrote (drop 2 out);
+        }
+
     behind : (vs : List ℕ) (s : Selection) (n : ℕ) → run largest ws from (planOf r ls) ≡ finished vs s n → (p : Panel) → preceded (made r ls vs s) p ≡ chosen cs next
-        → ((ds : List Choice) → p ≡ chosen ds next → (x : Choice) → List·Memᴰ x ds → Comes ls ws x) → Comes ls ws c
-    behind vs s n h (chosen ds k) q rest =
-        let x : cs ≡ made r ls vs s ∷ ds = cc in
-        let y : k ≡ next = cc in
-        ⊎-elim (λ z. rw z (record { from = from; next = n; result = s; ran = h; number = refl; outcome = refl })) (λ z. rest ds (ap (chosen ds) y) c z)
-        (List·Memᴰ·cases-cons (rw x at d))
-    behind vs s n h (short k) q rest = let z : _≡_ {A = ℕ} 0 1 = cc in absurd (omega arith)
+        → ((ds : List Choice) → p ≡ chosen ds next → (j : ℕ) → j < length rs → Comes ls ws ds j (getD rs j 0)) → Comes ls ws cs i (getD (r ∷ rs) i 0)
+    behind vs s n q (chosen ds k) x rest =
+        let y : cs ≡ made r ls vs s ∷ ds = cc in
+        let z : k ≡ next = cc in
+        rw y (at vs s n q ds (rest ds (ap (chosen ds) z)) i h)
+    behind vs s n q (short k) x rest = let z : _≡_ {A = ℕ} 0 1 = cc in absurd (omega arith)
 
     go : (x : Run Selection) → run largest ws from (planOf r ls) ≡ x → andThen r ls x (λ n. panelFrom ls ws n rs) ≡ chosen cs next
-        → ((n : ℕ) (ds : List Choice) → panelFrom ls ws n rs ≡ chosen ds next → (x : Choice) → List·Memᴰ x ds → Comes ls ws x) → Comes ls ws c
-    go (finished vs s n) h q rest = behind vs s n h (panelFrom ls ws n rs) q (rest n)
-    go ended h q rest = let z : _≡_ {A = ℕ} 0 1 = cc in absurd (omega arith)
+        → ((n : ℕ) (ds : List Choice) → panelFrom ls ws n rs ≡ chosen ds next → (j : ℕ) → j < length rs → Comes ls ws ds j (getD rs j 0)) → Comes ls ws cs i (getD (r ∷ rs) i 0)
+    go (finished vs s n) q x rest = behind vs s n q (panelFrom ls ws n rs) x (rest n)
+    go ended q x rest = let z : _≡_ {A = ℕ} 0 1 = cc in absurd (omega arith)
 
--- and so it carries the lift of the path that has its values
-pub carries : (ls : List Lift) (ws : List ℕ) (from : ℕ) (rs : List ℕ) (next : ℕ) (cs : List Choice) → panelFrom ls ws from rs ≡ chosen cs next
-    → (r : ℕ) (p : Path Selection) → List·Memᴰ p (paths (planOf r ls)) → (c : Choice) → List·Memᴰ c cs → c .round ≡ r → c .values ≡ p .values → Carries r ls p c
-carries ls ws from rs next cs e r p m c d er ev =
-    let k = come ls ws from rs next cs e c d in
-    let ran : run largest ws (k .from) (planOf r ls) ≡ finished (p .values) (k .result) (k .next) = rw (← er, ← ev) (k .ran) in
-    let same : p .result ≡ k .result = follows largest (planOf r ls) .result ws (k .from) (k .next) (k .result) p m ran in
-    record {
-      number = rw (same, ← er) (k .number);
-      outcome = rw (same, ← er) (k .outcome);
-    }
+-- and so it has the lift and the outcome of the path that has its values
+pub carries : (sheet : List ℕ) {ls : List Lift} → lifts sheet ≡ ls → (ws : List ℕ) (start : ℕ) (out : List ℕ) {n k : ℕ}
+    → reply sheet ws start (length out) ≡ replied n k → (i : ℕ) → i < length (inUse New ls) → {r : ℕ} → getD (inUse New ls) i 0 ≡ r
+    → (p : Path Selection) → List·Memᴰ p (paths (planOf r ls)) → getD (draws (panel ls ws start)) i [] ≡ p .values
+    → slice (2 * i) (2 * i + 2) (output sheet ws start out) ≡ pairFor r ls (p .result)
+unfolding output
+carries sheet {ls} b ws start out e i h {r} a p d v =
+    let x = ran sheet ws start (length out) e in
+    let is : panel ls ws start ≡ chosen (x .choices) (x .next) = rw (← b) (x .is) in
+    let c : Comes ls ws (x .choices) i r = rw a at (come ls ws start (inUse New ls) (x .next) (x .choices) is i h) in
+    let vs : getD (map (λ c. c .values) (x .choices)) i [] ≡ p .values = rw is at v in
+    let drew : run largest ws (c .from) (planOf r ls) ≡ finished (p .values) (c .result) (c .next) = rw (← vs) (c .drew) in
+    let same : p .result ≡ c .result = follows largest (planOf r ls) .result ws (c .from) (c .next) (c .result) p d drew in
+    rw (e, x .is, same) (c .wrote out)

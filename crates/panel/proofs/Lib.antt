@@ -5,6 +5,7 @@ pub mod Selections
 pub mod MarkedFits
 pub mod RoundsFit
 pub mod Weighing
+pub mod Replies
 pub mod Following
 pub mod Fair
 pub mod Lending

@@ -493,7 +493,7 @@ module _ (ws : List ℕ) (f : Fitting ws) (m : List Lift) (i : List·Memᴰ m (s
         few = rw (length-marked m (lifts ws)) (listable .few);
       }
 
-  back : lifts (sheetOf (marked m (lifts ws))) ≡ marked m (lifts ws)
+  pub back : lifts (sheetOf (marked m (lifts ws))) ≡ marked m (lifts ws)
   back = written-theorem (marked m (lifts ws)) listable-marked .back
 
   -- one lift is held in each old round in use

@@ -137,8 +137,11 @@ unfoldable pub reply : List ℕ → List ℕ → ℕ → ℕ → Reply
 reply sheet ws start room = ofVerdict (verdict sheet) (lifts sheet) ws start room
 
 -- "kind 5 (upper 7 bits round, lower 21 outcome), kind 6 (lift number)"
+abbrev pub pair : ℕ → ℕ → ℕ → List ℕ
+pair round number outcome = word 5 (round * 2 ^ 21 + outcome) ∷ word 6 number ∷ []
+
 abbrev pub pairOf : Choice → List ℕ
-pairOf c = word 5 (c .round * 2 ^ 21 + c .outcome) ∷ word 6 (c .number) ∷ []
+pairOf c = pair (c .round) (c .number) (c .outcome)
 
 -- "Each round's pair is written to its own part of the output; words behind the last pair keep what they had."
 unfoldable pub written : List Choice → List ℕ → List ℕ

@@ -1,8 +1,9 @@
 -- Demand 3: "What demand 3 weighs" of document 01.
-use Prim.Native.Nat.{ℕ, _<_}
+use Prim.Native.Nat.{ℕ, _+_, _*_, _<_}
 use mathlib.Core.Path.{_≡_}
-use mathlib.Core.List.{List, [], _∷_, List·Memᴰ}
-use lib.ListN.{length}
+use mathlib.Core.List.{List, [], _∷_, map, List·Memᴰ}
+use lib.ListN.{length, getD}
+use lib.Seq.{slice}
 use Rattle.laws.specs.Fraction.{Fraction, _//_, _⊗_, _≈_, _≲_}
 use Rattle.laws.specs.Plan.{Path, paths, weight}
 use Rattle.round.specs.Round.{U, weights}
@@ -14,7 +15,7 @@ use Rattle.sheet.specs.Rounds.{inUse, sumOf, donors, ofRound}
 use Rattle.sheet.specs.Refusal.{fits, verdict}
 use Rattle.sheet.specs.Law.{Fitting}
 use Rattle.sheet.specs.declared.Side.the-variants.{Old, New}
-use Rattle.panel.specs.Choice.{donorsOf, liftsOf, heldIn, planOf, liftAt, Choice, chosen, panel}
+use Rattle.panel.specs.Choice.{donorsOf, liftsOf, heldIn, planOf, liftAt, Panel, chosen, short, panel, replied, reply, pair, output}
 use Rattle.panel.specs.Initial.{selections, marked, overSelections}
 
 -- what the paths weigh together, over all initial selections, that choose the lift at place j of round r: "The way weighs the product
@@ -26,20 +27,22 @@ share ls r j = overSelections ls (λ ms. weight (chooses j) (paths (planOf r ms)
 unfoldable pub kept : List Lift → ℕ → Fraction
 kept ls r = overSelections ls (λ ms. weight (λ s. liftAt r ms (s .place) .held) (paths (planOf r ms)))
 
--- "the output gives it for this round whenever the sheet so marked is run, not refused, and the round's draws have those values": the
--- choice carries the path's lift and outcome
-pub record Carries (r : ℕ) (ms : List Lift) (p : Path Selection) (c : Choice) : Type 0 where
-  pub number : c .number ≡ liftAt r ms (p .result .place) .number
-  pub outcome : c .outcome ≡ outcome (heldIn r ms) (p .result)
+-- the values drawn in each round, rising
+abbrev pub draws : Panel → List (List ℕ)
+draws (chosen cs next) = map (λ c. c .values) cs
+draws (short r) = []
 
 -- what is proved of every fitting sheet, with its lifts ls, and every one of its new rounds
 pub record FairRound (ls : List Lift) (r : ℕ) : Type 0 where
   -- "For each lift of the round, b = 0 included, the ways that have it as their lift weigh together exactly b over S."
   pub shares : (j : ℕ) → j < length (ofRound r ls) → share ls r j ≈ liftAt r ls j .new .measure // sumOf New r ls
-  -- a run of the sheet so marked, in which the round's draws have a path's values, chooses the path's lift
+  -- "the output gives it for this round whenever the sheet so marked is run, not refused, and the round's draws have those values": the
+  -- pair written for this round, the i-th, has the path's lift and outcome
   pub runs : (m : List Lift) → List·Memᴰ m (selections ls) → (p : Path Selection) → List·Memᴰ p (paths (planOf r (marked m ls)))
-      → (ws : List ℕ) (start next : ℕ) (cs : List Choice) → panel (marked m ls) ws start ≡ chosen cs next
-      → (c : Choice) → List·Memᴰ c cs → c .round ≡ r → c .values ≡ p .values → Carries r (marked m ls) p c
+      → (ws : List ℕ) (start : ℕ) (out : List ℕ) (n k : ℕ) → reply (sheetOf (marked m ls)) ws start (length out) ≡ replied n k
+      → (i : ℕ) → getD (inUse New ls) i 0 ≡ r → getD (draws (panel (marked m ls) ws start)) i [] ≡ p .values
+      → slice (2 * i) (2 * i + 2) (output (sheetOf (marked m ls)) ws start out)
+      ≡ pair r (liftAt r (marked m ls) (p .result .place) .number) (outcome (heldIn r (marked m ls)) (p .result))
   -- "In a round with one donor and U = T, every rule keeps at most as many tickets as all its tickets times what the ways weigh whose
   -- lift is held in their own marking."
   pub keeps : (t : ℕ) → donors r ls ≡ t ∷ [] → U 1 (liftsOf r ls) ≡ sumOf Old t ls → (times : ℕ) (grid : ℕ → ℕ → ℕ)

@@ -1,13 +1,12 @@
 -- What a panel's choices can be: the rounds are few, each number has its bound, and no more words are read than there are. By
 -- induction along the rounds, the lifts and the words. Assumes nothing.
 use Prim.Native.Nat.{ℕ, zero, suc, _+_, _*_, _-_, _%_, _^_, _≤_, _<_}
-use mathlib.Core.Path.{_≡_, refl, sym, ap}
+use mathlib.Core.Path.{_≡_, refl, ap}
 use mathlib.Core.Bool.{Bool, true, false, cond}
 use mathlib.Core.List.{List, [], _∷_}
 use native.Mathlib.Omega.{arith}
 use lib.Dec.{eqb, ltb}
 use lib.ListN.{length, getD, drop, length-drop}
-use borrow.Author.Tests.{ltb-false}
 use Rattle.laws.specs.Plan.{Plan, done, draw}
 use Rattle.draw.specs.Draw.{largest, K, drawFrom, drawAt}
 use Rattle.draw.specs.Run.{Run, finished, short as ended, drew, follow, run}
@@ -16,11 +15,10 @@ use Rattle.draw.specs.declared.Drawn.the-variants.{Value, Short}
 use Rattle.round.specs.Choice.{Selection, isHeld, outcome}
 use Rattle.round.specs.declared.Held.{Held}
 use Rattle.sheet.specs.Sheet.{mostRounds, kind, liftKind, Lift, liftOf, lifts}
-use Rattle.sheet.specs.Reading.{numbered}
 use Rattle.sheet.specs.Rounds.{those, named, inUse, ofRound}
-use Rattle.sheet.specs.Refusal.{Verdict, refused, fits, verdict}
 use Rattle.sheet.specs.declared.Side.the-variants.{New}
-use Rattle.panel.specs.Choice.{heldIn, planOf, nobody, liftAt, Choice, Panel, chosen, short, preceded, andThen, panelFrom, panel, refusal, replied, ofPanel, ofLent, ofVerdict, reply}
+use Rattle.panel.specs.Choice.{heldIn, planOf, nobody, liftAt, Choice, Panel, chosen, short, preceded, andThen, panelFrom, panel, replied, reply}
+use Rattle.panel.proofs.Replies.{ran}
 
 -- ---- lists whose elements have a property
 
@@ -180,39 +178,17 @@ pub record Made (sheet ws : List ℕ) (start n k : ℕ) : Type 0 where
   pub inside : next ≤ length ws
 
 pub made : (sheet ws : List ℕ) (start room : ℕ) {n k : ℕ} → reply sheet ws start room ≡ replied n k → Made sheet ws start n k
-unfolding reply
-made sheet ws start room {n} {k} e = judged (verdict sheet) e
-  where
-    ls : List Lift
-    ls = lifts sheet
-
-    told : (p : Panel) → panel ls ws start ≡ p → start ≤ length ws → ofPanel start p ≡ replied n k → Made sheet ws start n k
-    told (chosen cs next) h l q =
-        let b = bounded ls ws start (inUse New ls) (small-lifts sheet) (those-le (λ r. ltb 0 (named New r ls)) 1 mostRounds mostRounds (omega arith)) l h in
-        let x : length cs ≡ n = cc in
-        let y : next - start ≡ k = cc in
-        record {
-          choices = cs;
-          next = next;
-          is = h;
-          count = sym x;
-          read = sym y;
-          printable = b .printable;
-          few = omega (arith, b .many, those-few (λ r. ltb 0 (named New r ls)) 1 mostRounds);
-          inside = b .inside;
-        }
-    told (short r) h l q = let z : _≡_ {A = ℕ} 0 1 = cc in absurd (omega arith)
-
-    lent : (rounds : ℕ) → ofLent ls rounds ws start room ≡ replied n k → Made sheet ws start n k
-    lent rounds q = go (ltb (length ws) start) refl (ltb room (2 * rounds)) q
-      where
-        go : (t : Bool) → ltb (length ws) start ≡ t → (u : Bool)
-            → cond t (refusal (numbered 11 start)) (cond u (refusal (numbered 12 (2 * rounds))) (ofPanel start (panel ls ws start))) ≡ replied n k
-            → Made sheet ws start n k
-        go true h u q = let z : _≡_ {A = ℕ} 0 1 = cc in absurd (omega arith)
-        go false h true q = let z : _≡_ {A = ℕ} 0 1 = cc in absurd (omega arith)
-        go false h false q = told (panel ls ws start) refl (ltb-false _ _ h) q
-
-    judged : (v : Verdict) → ofVerdict v ls ws start room ≡ replied n k → Made sheet ws start n k
-    judged (refused x) q = let z : _≡_ {A = ℕ} 0 1 = cc in absurd (omega arith)
-    judged (fits m rounds) q = lent rounds q
+made sheet ws start room e =
+    let used : ℕ → Bool = λ r. ltb 0 (named New r (lifts sheet)) in
+    let x = ran sheet ws start room e in
+    let b = bounded (lifts sheet) ws start (inUse New (lifts sheet)) (small-lifts sheet) (those-le used 1 mostRounds mostRounds (omega arith)) (x .started) (x .is) in
+    record {
+      choices = x .choices;
+      next = x .next;
+      is = x .is;
+      count = x .count;
+      read = x .read;
+      printable = b .printable;
+      few = omega (arith, x .count, b .many, those-few used 1 mostRounds);
+      inside = b .inside;
+    }
