@@ -12,7 +12,7 @@ use Rattle.round.specs.declared.Held.the-variants.{Neither, Single, Both}
 use Rattle.round.specs.declared.Selected.{Selected}
 use Rattle.round.specs.declared.Selected.the-variants.{At, Short as Ended}
 use Rattle.sheet.specs.Refusal.{Verdict, refused, fits}
-use Rattle.panel.specs.Choice.{Reply, refusal, replied}
+use Rattle.selection.specs.Choice.{Reply, refusal, replied}
 
 -- whether there is a value
 abbrev pub isValue : Drawn → Bool

@@ -5,7 +5,7 @@ ghost use Rattle.draw.specs.Draw.{largest, drawAt};
 ghost use Rattle.round.specs.Choice.{selected};
 ghost use Rattle.round.specs.Slices.{lifts, Level, Callable};
 ghost use Rattle.sheet.specs.Refusal.{verdict};
-ghost use Rattle.panel.specs.Choice.{reply, output};
+ghost use Rattle.selection.specs.Choice.{reply, output};
 ghost use Rattle.exports.specs.Reply.{Replied, donorsOf, heldOf, Chose, Answered, Told};
 use draw::Drawn;
 use panel::Answer;

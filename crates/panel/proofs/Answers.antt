@@ -22,7 +22,7 @@ use Rattle.sheet.specs.Rounds.{named, inUse}
 use Rattle.sheet.proofs.Searches.{those-count}
 use Rattle.sheet.specs.Refusal.{refused, fits, verdict}
 use Rattle.sheet.specs.declared.Side.the-variants.{New}
-use Rattle.panel.specs.Choice.{heldIn, planOf, liftAt, Choice, Panel, chosen, short, preceded, andThen, panelFrom, panel, Reply, refusal, replied, ofPanel, ofLent, reply, written, writtenOf, unlessRefused, output}
+use Rattle.selection.specs.Choice.{heldIn, planOf, liftAt, Choice, Panel, chosen, short, preceded, andThen, panelFrom, panel, Reply, refusal, replied, ofPanel, ofLent, reply, written, writtenOf, unlessRefused, output}
 use Rattle.panel.specs.Slices.{firstWord, secondWord, pairs, Picked}
 use Rattle.panel.specs.declared.Picks.{Picks}
 

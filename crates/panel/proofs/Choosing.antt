@@ -26,11 +26,11 @@ use Rattle.sheet.specs.declared.Side.the-variants.{Old, New}
 use Rattle.sheet.specs.declared.Field.the-variants.{Number, Round, Measure, Held}
 use Rattle.sheet.proofs.Tables.{getD-tabulate}
 use Rattle.sheet.proofs.Placing.{below-mono, below-le, below-suc, named-length}
-use Rattle.panel.specs.Choice.{withSums, donorsOf, liftsOf, heldIn, planOf, liftAt, nobody, Choice, Panel, chosen, short, preceded, andThen, panelFrom, panel}
+use Rattle.selection.specs.Choice.{withSums, donorsOf, liftsOf, heldIn, planOf, liftAt, nobody, Choice, Panel, chosen, short, preceded, andThen, panelFrom, panel}
 use Rattle.panel.specs.Slices.{sendersOf, withTable, heldBy, roundOf, Even, Within, Lent, begins, partOf, sendersIn, donorsIn, liftsIn, marksIn, Small, Ready, picked, after, stepped, goOn, steppedFrom, noPicks, firstWord, secondWord, Gathers, Picked}
 use Rattle.panel.specs.declared.Senders.{Senders as Donating}
 use Rattle.panel.specs.declared.Picks.{Picks}
-use Rattle.panel.proofs.RoundsFit.{those-head, Senders, none, one, two, senders, round-fits, round-bounded, round-stands}
+use Rattle.selection.proofs.RoundsFit.{those-head, Senders, none, one, two, senders, round-fits, round-bounded, round-stands}
 use Rattle.panel.proofs.Lending.{senders-donors, heldBy-of, roundOf-of}
 
 -- an outcome is at most 3

@@ -17,12 +17,12 @@ use Rattle.sheet.specs.Sheet.{mostRounds, Lift}
 use Rattle.sheet.specs.Rounds.{those, sends, donors}
 use Rattle.sheet.specs.Tables.{bits}
 use Rattle.sheet.proofs.Searches.{those-ext}
-use Rattle.panel.specs.Choice.{donorNumber, further, heldAt, heldAmong}
+use Rattle.selection.specs.Choice.{donorNumber, further, heldAt, heldAmong}
 use Rattle.panel.specs.Slices.{bitAt, first, sendersOf, numberOf, heldPlace, heldBy, roundOf, Even}
 use Rattle.panel.specs.declared.Senders.the-variants.{None, One, Two}
 use Rattle.panel.specs.declared.Found.{Found}
 use Rattle.panel.specs.declared.Found.the-variants.{At, Nothing}
-use Rattle.panel.proofs.RoundsFit.{those-head}
+use Rattle.selection.proofs.RoundsFit.{those-head}
 
 -- ---- bits
 

@@ -1,13 +1,3 @@
-pub mod Marks
-pub mod Means
-pub mod Standing
-pub mod Selections
-pub mod MarkedFits
-pub mod RoundsFit
-pub mod Weighing
-pub mod Replies
-pub mod Following
-pub mod Fair
 pub mod Lending
 pub mod Choosing
 pub mod Gathering

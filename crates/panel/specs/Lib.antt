@@ -1,4 +1,1 @@
-pub mod Choice
-pub mod Initial
-pub mod Fair
 pub mod Slices

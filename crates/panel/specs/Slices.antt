@@ -19,7 +19,7 @@ use Rattle.sheet.specs.Sheet.{mostRounds, word}
 use Rattle.sheet.specs.Reading.{numbered}
 use Rattle.sheet.specs.Rounds.{those}
 use Rattle.sheet.specs.Refusal.{refusal as refusalOf}
-use Rattle.panel.specs.Choice.{further, Choice, Panel, chosen, short, Reply, refusal, replied}
+use Rattle.selection.specs.Choice.{further, Choice, Panel, chosen, short, Reply, refusal, replied}
 use Rattle.panel.specs.declared.Senders.{Senders}
 use Rattle.panel.specs.declared.Senders.the-variants.{None, One, Two}
 use Rattle.panel.specs.declared.Picks.{Picks}

@@ -17,8 +17,8 @@ use Rattle.round.specs.declared.Held.{Held}
 use Rattle.sheet.specs.Sheet.{mostRounds, kind, liftKind, Lift, liftOf, lifts}
 use Rattle.sheet.specs.Rounds.{those, named, inUse, ofRound}
 use Rattle.sheet.specs.declared.Side.the-variants.{New}
-use Rattle.panel.specs.Choice.{heldIn, planOf, nobody, liftAt, Choice, Panel, chosen, short, preceded, andThen, panelFrom, panel, replied, reply}
-use Rattle.panel.proofs.Replies.{ran}
+use Rattle.selection.specs.Choice.{heldIn, planOf, nobody, liftAt, Choice, Panel, chosen, short, preceded, andThen, panelFrom, panel, replied, reply}
+use Rattle.selection.proofs.Replies.{ran}
 
 -- ---- lists whose elements have a property
 

@@ -7,7 +7,7 @@ use lib.ListN.{length, getD, take, drop, length-drop}
 use lib.Seq.{drop-cons}
 use Rattle.sheet.specs.Sheet.{payload, placeOf, word}
 use Rattle.sheet.proofs.Trips.{payload-word}
-use Rattle.panel.specs.Choice.{Choice, written}
+use Rattle.selection.specs.Choice.{Choice, written}
 use Rattle.report.specs.Report.{line, lines, pairLines}
 use Rattle.report.proofs.Choices.{Each, Printable}
 

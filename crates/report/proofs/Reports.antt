@@ -7,7 +7,7 @@ use lib.ListN.{length, take}
 use borrow.Author.Tests.{eq-eqb, ne-eqb, lt-ltb, le-ltb}
 use Rattle.sheet.specs.Sheet.{mostRounds, longest}
 use Rattle.sheet.specs.Reading.{Numbered, numbered}
-use Rattle.panel.specs.Choice.{written, refusal, replied, reply, output}
+use Rattle.selection.specs.Choice.{written, refusal, replied, reply, output}
 use Rattle.report.specs.Report.{mostWords, sheetWords, randomWords, lines, wordsLine, refusedLine, textOf, report, pairLines, textRoom}
 use Rattle.report.proofs.Choices.{made}
 use Rattle.report.proofs.Sizes.{chosen-le}

@@ -6,7 +6,7 @@ use native.Mathlib.Omega.{arith}
 use lib.ListN.{length, length-append}
 use Rattle.sheet.specs.Sheet.{mostRounds}
 use Rattle.sheet.specs.Reading.{numbered}
-use Rattle.panel.specs.Choice.{Choice}
+use Rattle.selection.specs.Choice.{Choice}
 use Rattle.report.specs.Report.{mostWords, decimal, field, space, LF, line, lines, wordsLabel, wordsLine, refusedLabel, refusedLine, textRoom}
 use Rattle.report.proofs.Decimals.{field-le}
 use Rattle.report.proofs.Choices.{Each, Printable}

@@ -13,7 +13,7 @@ use Rattle.sheet.specs.Reading.{fault, readFrom}
 use Rattle.sheet.specs.Rounds.{those, sends, ofRound}
 use Rattle.sheet.specs.Refusal.{firstRound, ofRounds, verdict}
 use Rattle.sheet.specs.Tables.{tabulate}
-use Rattle.panel.specs.Choice.{donorsOf, liftsOf, heldAt, heldIn, planOf, liftAt, panelFrom, reply}
+use Rattle.selection.specs.Choice.{donorsOf, liftsOf, heldAt, heldIn, planOf, liftAt, panelFrom, reply}
 use Rattle.report.specs.Report.{littleEndian, wordsOf, digits, decimal, field, line, lines, wordsLine, refusedLine, textOf, report}
 use Rattle.report.specs.Worked.{cases, allRight}
 

@@ -8,7 +8,7 @@ use lib.ListN.{length, take, drop}
 use Rattle.sheet.specs.Sheet.{mostRounds, longest, payload, placeOf, lifts}
 use Rattle.sheet.specs.Reading.{Numbered, numbered}
 use Rattle.sheet.specs.Tables.{tabulate}
-use Rattle.panel.specs.Choice.{Choice, Panel, chosen, short, panel, Reply, refusal, replied, reply}
+use Rattle.selection.specs.Choice.{Choice, Panel, chosen, short, panel, Reply, refusal, replied, reply}
 
 -- ---- the files
 

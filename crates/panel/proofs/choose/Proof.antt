@@ -3,7 +3,7 @@ use mathlib.Core.Path.{sym, ap, _∙_}
 use Rattle.sheet.specs.Refusal.{told as checked}
 use Rattle.sheet.proofs.Verdicts.{decided}
 use Rattle.panel.proofs.Answers.{at-sheet, at-fitting}
-use Rattle.panel.proofs.Fair.{fair}
+use Rattle.selection.proofs.Fair.{fair}
 use borrow.Author.Needs.{needs}
 use Rattle.panel.proofs.choose.Statement.{statement}
 use Rattle.panel.proofs.choose.Tie as tie

@@ -5,7 +5,7 @@ use lib.ListN.{take}
 use lib.Seq.{length-take-le}
 use Rattle.sheet.specs.Sheet.{lifts}
 use Rattle.sheet.proofs.Verdicts.{legible}
-use Rattle.panel.specs.Choice.{panel}
+use Rattle.selection.specs.Choice.{panel}
 use Rattle.panel.specs.Slices.{Lent, lent, Picked}
 use Rattle.panel.proofs.Choosing.{Lends, gathered}
 use Rattle.panel.proofs.Gathering.{lifts-few, lends-ready}

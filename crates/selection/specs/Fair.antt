@@ -15,8 +15,8 @@ use Rattle.sheet.specs.Rounds.{inUse, sumOf, donors, ofRound}
 use Rattle.sheet.specs.Refusal.{fits, verdict}
 use Rattle.sheet.specs.Law.{Fitting}
 use Rattle.sheet.specs.declared.Side.the-variants.{Old, New}
-use Rattle.panel.specs.Choice.{donorsOf, liftsOf, heldIn, planOf, liftAt, Panel, chosen, short, panel, replied, reply, pair, output}
-use Rattle.panel.specs.Initial.{selections, marked, overSelections}
+use Rattle.selection.specs.Choice.{donorsOf, liftsOf, heldIn, planOf, liftAt, Panel, chosen, short, panel, replied, reply, pair, output}
+use Rattle.selection.specs.Initial.{selections, marked, overSelections}
 
 -- what the paths weigh together, over all initial selections, that choose the lift at place j of round r: "The way weighs the product
 -- of the held lifts' old measures over the product of all old sums, divided by the W of each of its draws."

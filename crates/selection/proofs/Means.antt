@@ -16,8 +16,8 @@ use Rattle.laws.proofs.Fractions.{pos-left, pos-right, ≈-refl, ≈-trans, ≈
 use Rattle.sheet.specs.Sheet.{Lift}
 use Rattle.sheet.specs.Rounds.{those, sumOf}
 use Rattle.sheet.specs.declared.Side.the-variants.{Old}
-use Rattle.panel.specs.Choice.{nobody}
-use Rattle.panel.specs.Initial.{eligible, each, selectionsFrom, product, sumOver}
+use Rattle.selection.specs.Choice.{nobody}
+use Rattle.selection.specs.Initial.{eligible, each, selectionsFrom, product, sumOver}
 
 -- the lift at a place of a list
 abbrev pub nth : List Lift → ℕ → Lift

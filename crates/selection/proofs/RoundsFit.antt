@@ -16,7 +16,7 @@ use Rattle.sheet.specs.Sheet.{mostRounds, largestSum, Lift, lifts}
 use Rattle.sheet.specs.Rounds.{those, named, sumOf, sends, donors, ofRound}
 use Rattle.sheet.specs.Law.{Fitting}
 use Rattle.sheet.specs.declared.Side.the-variants.{Old, New}
-use Rattle.panel.specs.Choice.{donorNumber, withSums, donorsOf, liftsOf, further, heldAt, heldAmong, heldIn}
+use Rattle.selection.specs.Choice.{donorNumber, withSums, donorsOf, liftsOf, further, heldAt, heldAmong, heldIn}
 
 -- ---- the first of the numbers that pass a test
 

@@ -18,9 +18,9 @@ use Rattle.sheet.specs.Sheet.{Lift}
 use Rattle.sheet.specs.Rounds.{sumOf, ofRound}
 use Rattle.sheet.specs.Law.{Listed}
 use Rattle.sheet.specs.declared.Side.the-variants.{Old}
-use Rattle.panel.specs.Choice.{further, heldAt}
-use Rattle.panel.specs.Initial.{names, marked}
-use Rattle.panel.proofs.Means.{nth, brought, mean, brought-≈, mean-≈}
+use Rattle.selection.specs.Choice.{further, heldAt}
+use Rattle.selection.specs.Initial.{names, marked}
+use Rattle.selection.proofs.Means.{nth, brought, mean, brought-≈, mean-≈}
 
 -- ---- numbers
 

@@ -20,11 +20,11 @@ use Rattle.sheet.specs.Law.{Listed, Fitting}
 use Rattle.sheet.specs.declared.Side.the-variants.{Old}
 use Rattle.sheet.proofs.Searches.{those-none}
 use Rattle.sheet.proofs.Trips.{read-theorem}
-use Rattle.panel.specs.Choice.{donorNumber, withSums, donorsOf, liftsOf, heldAt, heldAmong, heldIn}
-use Rattle.panel.specs.Initial.{marked, odds, overSelections}
-use Rattle.panel.proofs.Marks.{sends-marked, ofRound-marked}
-use Rattle.panel.proofs.Means.{nth, mean, mean-≈, mean-den, means, Unseen, reduced}
-use Rattle.panel.proofs.Standing.{numbered-once, heldAt-drop, stands, keyed, sorted}
+use Rattle.selection.specs.Choice.{donorNumber, withSums, donorsOf, liftsOf, heldAt, heldAmong, heldIn}
+use Rattle.selection.specs.Initial.{marked, odds, overSelections}
+use Rattle.selection.proofs.Marks.{sends-marked, ofRound-marked}
+use Rattle.selection.proofs.Means.{nth, mean, mean-≈, mean-den, means, Unseen, reduced}
+use Rattle.selection.proofs.Standing.{numbered-once, heldAt-drop, stands, keyed, sorted}
 
 -- ---- the rounds of a sheet
 

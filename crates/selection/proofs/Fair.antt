@@ -25,15 +25,15 @@ use Rattle.sheet.specs.Sheet.{mostRounds, Lift, lifts, sheetOf}
 use Rattle.sheet.specs.Rounds.{those, named, inUse, sumOf, donors, ofRound}
 use Rattle.sheet.specs.Law.{Fitting}
 use Rattle.sheet.specs.declared.Side.the-variants.{Old, New}
-use Rattle.panel.specs.Choice.{donorNumber, donorsOf, liftsOf, heldIn, planOf, nobody, liftAt}
-use Rattle.panel.specs.Initial.{marked}
-use Rattle.panel.specs.Fair.{share, kept, FairTheorem}
-use Rattle.panel.proofs.Marks.{inUse-marked, donorsOf-marked, liftsOf-marked}
-use Rattle.panel.proofs.RoundsFit.{S-round, round-fits}
-use Rattle.panel.proofs.Weighing.{selections-ext, weight-ext, weight-den}
-use Rattle.panel.proofs.Following.{carries}
-use Rattle.panel.proofs.Selections.{transfer, whole}
-use Rattle.panel.proofs.MarkedFits.{back, marked-fits, flags}
+use Rattle.selection.specs.Choice.{donorNumber, donorsOf, liftsOf, heldIn, planOf, nobody, liftAt}
+use Rattle.selection.specs.Initial.{marked}
+use Rattle.selection.specs.Fair.{share, kept, FairTheorem}
+use Rattle.selection.proofs.Marks.{inUse-marked, donorsOf-marked, liftsOf-marked}
+use Rattle.selection.proofs.RoundsFit.{S-round, round-fits}
+use Rattle.selection.proofs.Weighing.{selections-ext, weight-ext, weight-den}
+use Rattle.selection.proofs.Following.{carries}
+use Rattle.selection.proofs.Selections.{transfer, whole}
+use Rattle.selection.proofs.MarkedFits.{back, marked-fits, flags}
 
 -- a round in use passes the test, within the bounds
 mem-those : (p : ℕ → Bool) (a n r : ℕ) → List·Memᴰ r (those p a n) → (p r ≡ true) × (a ≤ r) × (r < a + n)

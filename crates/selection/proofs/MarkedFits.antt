@@ -22,9 +22,9 @@ use Rattle.sheet.specs.Law.{Proper, Listed, Listable, Fitting}
 use Rattle.sheet.specs.declared.Side.the-variants.{Old, New}
 use Rattle.sheet.proofs.Trips.{read-theorem, written-theorem}
 use Rattle.sheet.proofs.Verdicts.{decided}
-use Rattle.panel.specs.Choice.{further, heldAt, heldAmong, heldIn, nobody, liftAt}
-use Rattle.panel.specs.Initial.{eligible, each, selectionsFrom, selections, names, marked}
-use Rattle.panel.proofs.Marks.{named-marked, sumOf-marked, inUse-marked, donors-marked, length-marked}
+use Rattle.selection.specs.Choice.{further, heldAt, heldAmong, heldIn, nobody, liftAt}
+use Rattle.selection.specs.Initial.{eligible, each, selectionsFrom, selections, names, marked}
+use Rattle.selection.proofs.Marks.{named-marked, sumOf-marked, inUse-marked, donors-marked, length-marked}
 
 -- ---- what holds of every element
 

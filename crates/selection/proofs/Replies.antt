@@ -10,7 +10,7 @@ use borrow.Author.Tests.{ltb-false}
 use Rattle.sheet.specs.Sheet.{lifts}
 use Rattle.sheet.specs.Reading.{numbered}
 use Rattle.sheet.specs.Refusal.{Verdict, refused, fits, verdict}
-use Rattle.panel.specs.Choice.{Choice, Panel, chosen, short, panel, refusal, replied, ofPanel, ofLent, ofVerdict, reply}
+use Rattle.selection.specs.Choice.{Choice, Panel, chosen, short, panel, refusal, replied, ofPanel, ofLent, ofVerdict, reply}
 
 -- the choices of a run, their number, and the words that were read
 pub record Ran (sheet ws : List ℕ) (start n k : ℕ) : Type 0 where

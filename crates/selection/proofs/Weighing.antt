@@ -9,7 +9,7 @@ use Rattle.laws.specs.Sum.{over, indicator}
 use Rattle.laws.specs.Fraction.{Fraction, _//_, _⊕_, _⊗_}
 use Rattle.laws.specs.Plan.{Plan, done, draw, Path, drew, paths, weight}
 use Rattle.sheet.specs.Sheet.{Lift}
-use Rattle.panel.specs.Initial.{selections, marked, odds, sumOver, overSelections}
+use Rattle.selection.specs.Initial.{selections, marked, odds, sumOver, overSelections}
 
 sumOver-ext : (ms : List (List Lift)) {f g : List Lift → Fraction} → ((m : List Lift) → List·Memᴰ m ms → f m ≡ g m) → sumOver ms f ≡ sumOver ms g
 unfolding sumOver

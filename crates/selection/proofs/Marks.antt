@@ -12,8 +12,8 @@ use Rattle.sheet.specs.Rounds.{placeAt, named, inUse, sumOf, comes, sends, dono
 use Rattle.sheet.specs.declared.Side.{Side}
 use Rattle.sheet.specs.declared.Side.the-variants.{Old, New}
 use Rattle.sheet.proofs.Searches.{those-ext}
-use Rattle.panel.specs.Choice.{donorNumber, withSums, donorsOf, liftsOf}
-use Rattle.panel.specs.Initial.{holding, marked}
+use Rattle.selection.specs.Choice.{donorNumber, withSums, donorsOf, liftsOf}
+use Rattle.selection.specs.Initial.{holding, marked}
 
 module _ (m : List Lift) where
   place-holding : (side : Side) (l : Lift) → placeAt side (holding m l) ≡ placeAt side l

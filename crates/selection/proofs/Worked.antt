@@ -1,0 +1,26 @@
+-- The document's cases and the exact shares of a small sheet, computed.
+use mathlib.Core.Path.{_≡_, refl}
+use mathlib.Core.Bool.{true}
+use Rattle.laws.specs.Sum.{over, total, totalBy}
+use Rattle.laws.specs.Interval.{pick}
+use Rattle.laws.specs.Plan.{after, paths, weight}
+use Rattle.draw.specs.Draw.{drawFrom}
+use Rattle.draw.specs.Run.{run}
+use Rattle.round.specs.Round.{S, U, D, oldWeight, newWeight, weights, G}
+use Rattle.round.specs.Choice.{fresh, firstOdds, preliminary, stayOr, replacement, keyfitz, select, plan, outcome}
+use Rattle.sheet.specs.Sheet.{lifts, written as writtenLifts}
+use Rattle.sheet.specs.Reading.{fault, readFrom}
+use Rattle.sheet.specs.Rounds.{those, sends, ofRound}
+use Rattle.sheet.specs.Refusal.{firstRound, ofRounds, verdict}
+use Rattle.selection.specs.Choice.{donorsOf, liftsOf, heldAt, heldIn, planOf, liftAt, panelFrom, reply, written, output}
+use Rattle.selection.specs.Initial.{eligible, each, selectionsFrom, names, marked, product, odds, sumOver, overSelections}
+use Rattle.selection.specs.Fair.{share}
+use Rattle.selection.specs.Worked.{cases, allRight, rightShares}
+
+pub all-right : allRight cases ≡ true
+unfolding total totalBy pick after drawFrom run S U D oldWeight newWeight weights G fresh firstOdds preliminary stayOr replacement keyfitz select plan outcome lifts writtenLifts fault readFrom those sends ofRound firstRound ofRounds verdict donorsOf liftsOf heldAt heldIn planOf liftAt panelFrom reply written output
+all-right = refl
+
+pub exact-shares : rightShares ≡ true
+unfolding over total totalBy pick after paths weight S U D oldWeight newWeight weights G fresh firstOdds preliminary stayOr replacement keyfitz select plan those sends ofRound donorsOf liftsOf heldAt heldIn planOf liftAt eligible each selectionsFrom names marked product odds sumOver overSelections share
+exact-shares = refl

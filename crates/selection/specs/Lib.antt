@@ -1,0 +1,4 @@
+pub mod Choice
+pub mod Initial
+pub mod Fair
+pub mod Worked

@@ -1,0 +1,130 @@
+-- Small sheets with what is replied and written, as one table to be computed: the document's small rounds worked through, M1 to M11, and
+-- the refusals because of what was lent; and the exact shares of a small sheet.
+use Prim.Native.Nat.{ℕ, _*_, _-_, _^_}
+use mathlib.Core.Bool.{Bool, true, false, not, _&&_}
+use mathlib.Core.List.{List, [], _∷_, _++_}
+use lib.Dec.{eqb, ltb}
+use lib.ListN.{length}
+use Rattle.sheet.specs.Sheet.{Lift, sheetOf}
+use Rattle.sheet.specs.Reading.{numbered}
+use Rattle.sheet.specs.Rounds.{sumOf}
+use Rattle.sheet.specs.declared.Side.the-variants.{New}
+use Rattle.selection.specs.Choice.{liftAt, Reply, refusal, replied, reply, pair, output}
+use Rattle.selection.specs.Fair.{share}
+
+-- a sheet, random words, a start and an output, with the reply and the output after the call
+pub record Case : Type 0 where
+  pub sheet : List ℕ
+  pub words : List ℕ
+  pub start : ℕ
+  pub out : List ℕ
+  pub reply : Reply
+  pub written : List ℕ
+
+-- a round of one choice from the first word on, with a word behind the pair that stays
+abbrev choice : List ℕ → List ℕ → Reply → List ℕ → Case
+choice sheet ws r pair = record { sheet = sheet; words = ws; start = 0; out = 7 ∷ 8 ∷ 9 ∷ []; reply = r; written = pair ++ (9 ∷ []) }
+
+-- a refusal: the output keeps what it had
+abbrev refused : List ℕ → List ℕ → ℕ → List ℕ → ℕ → ℕ → Case
+refused sheet ws start out n place =
+    record { sheet = sheet; words = ws; start = start; out = out; reply = refusal (numbered n place); written = out }
+
+abbrev pub sameReply : Reply → Reply → Bool
+sameReply (refusal x) (refusal y) = eqb (x .number) (y .number) && eqb (x .place) (y .place)
+sameReply (refusal x) (replied n k) = false
+sameReply (replied n k) (refusal y) = false
+sameReply (replied n k) (replied m j) = eqb n m && eqb k j
+
+abbrev pub same : List ℕ → List ℕ → Bool
+same [] [] = true
+same [] (y ∷ ys) = false
+same (x ∷ xs) [] = false
+same (x ∷ xs) (y ∷ ys) = eqb x y && same xs ys
+
+-- whether the definitions give the reply and the output
+abbrev pub right : Case → Bool
+right c =
+    sameReply (reply (c .sheet) (c .words) (c .start) (length (c .out))) (c .reply)
+    && same (output (c .sheet) (c .words) (c .start) (c .out)) (c .written)
+
+abbrev pub allRight : List Case → Bool
+allRight [] = true
+allRight (c ∷ cs) = right c && allRight cs
+
+-- a lift by its number, old place, new place and whether it is held
+abbrev lift : ℕ → ℕ → ℕ → ℕ → ℕ → Bool → Lift
+lift n t m r b h = record { number = n; old = record { round = t; measure = m }; new = record { round = r; measure = b }; held = h }
+
+-- "Lifts 11, 12, 13, old 2, 3, 5, new 4, 1, 5", the lift of a number held
+abbrev three : ℕ → List ℕ
+three n = sheetOf (lift 11 1 2 1 4 (eqb n 11) ∷ lift 12 1 3 1 1 (eqb n 12) ∷ lift 13 1 5 1 5 (eqb n 13) ∷ [])
+
+-- the document's whole sheet: 12 held
+abbrev example : List ℕ
+example =
+    0x1000000B ∷ 0x20200002 ∷ 0x30200004 ∷ 0x1000000C ∷ 0x20200003 ∷ 0x30200001 ∷ 0x40000000 ∷ 0x1000000D ∷ 0x20200005 ∷ 0x30200005 ∷ 0xF0000003 ∷ []
+
+-- three newcomers of measure 1: a draw below 3
+abbrev newcomers : List ℕ
+newcomers = sheetOf (lift 1 0 0 1 1 false ∷ lift 2 0 0 1 1 false ∷ lift 3 0 0 1 1 false ∷ [])
+
+-- "Lift 21 (m 1, T1 4) and 22 (m 3, T2 6), b 1 and 1", held or not; what is left of both old rounds is withdrawn
+abbrev two : Bool → Bool → List Lift
+two h k =
+    lift 21 1 1 1 1 h ∷ lift 22 2 3 1 1 k ∷ lift 23 1 3 0 0 (not h) ∷ lift 24 2 3 0 0 (not k) ∷ []
+
+-- "Old 3, 7, new 0, 1, first held"
+abbrev noChance : List ℕ
+noChance = sheetOf (lift 1 1 3 1 0 true ∷ lift 2 1 7 1 1 false ∷ [])
+
+-- two rounds: the second chooses among two newcomers
+abbrev rounds : List ℕ
+rounds = sheetOf (lift 1 1 3 1 0 true ∷ lift 2 1 7 1 1 false ∷ lift 3 0 0 2 1 false ∷ lift 4 0 0 2 1 false ∷ [])
+
+abbrev pub cases : List Case
+cases =
+    -- M1 to M11 in the document's order; M2 is the document's whole sheet; M11, "always dropped", for each r
+    choice (three 12) (9 ∷ []) (replied 1 1) (pair 1 12 1)
+    ∷ choice example (10 ∷ 0 ∷ []) (replied 1 2) (pair 1 11 2)
+    ∷ choice (three 13) [] (replied 1 0) (pair 1 13 1)
+    ∷ choice newcomers ((2 ^ 64 - 1) ∷ 1 ∷ []) (replied 1 2) (pair 1 2 3)
+    ∷ choice newcomers ((2 ^ 64 - 2) ∷ []) (replied 1 1) (pair 1 3 3)
+    ∷ choice (sheetOf (two true true)) (11 ∷ []) (replied 1 1) (pair 1 21 1)
+    ∷ choice (sheetOf (two true true)) (12 ∷ 17 ∷ []) (replied 1 2) (pair 1 22 1)
+    ∷ choice (sheetOf (two true true)) (12 ∷ 18 ∷ 5 ∷ []) (replied 1 3) (pair 1 21 1)
+    ∷ choice (sheetOf (two false false)) (1 ∷ []) (replied 1 1) (pair 1 22 3)
+    ∷ choice (sheetOf (two false true)) (18 ∷ 0 ∷ []) (replied 1 2) (pair 1 21 2)
+    ∷ choice noChance (0 ∷ 0 ∷ []) (replied 1 2) (pair 1 2 2)
+    ∷ choice noChance (1 ∷ 0 ∷ []) (replied 1 2) (pair 1 2 2)
+    ∷ choice noChance (2 ∷ 0 ∷ []) (replied 1 2) (pair 1 2 2)
+    -- "in rising order, each reading on where the one before stopped", from a start on
+    ∷ record {
+      sheet = rounds;
+      words = 5 ∷ 0 ∷ 0 ∷ 1 ∷ [];
+      start = 1;
+      out = 5 ∷ 6 ∷ 7 ∷ 8 ∷ 9 ∷ [];
+      reply = replied 2 3;
+      written = pair 1 2 2 ++ (pair 2 4 3 ++ (9 ∷ []));
+    }
+    -- 11 before 12 before 13; "13. The chance words end before a needed draw is finished. Place: the new round."
+    ∷ refused rounds (0 ∷ []) 2 [] 11 2
+    ∷ refused rounds (0 ∷ []) 1 (7 ∷ 8 ∷ 9 ∷ []) 12 4
+    ∷ refused rounds (0 ∷ []) 1 (6 ∷ 7 ∷ 8 ∷ 9 ∷ []) 13 1
+    ∷ refused rounds (0 ∷ 0 ∷ []) 0 (6 ∷ 7 ∷ 8 ∷ 9 ∷ []) 13 2
+    -- 1 to 10 before them
+    ∷ refused [] [] 1 [] 1 0
+    ∷ []
+
+-- lifts of old round 1, of which one goes elsewhere, and one of old round 2, in new round 1: one grows, another shrinks
+abbrev small : List Lift
+small = lift 1 1 1 1 2 true ∷ lift 2 2 1 1 1 false ∷ lift 3 1 1 2 1 false ∷ lift 4 2 2 0 0 true ∷ []
+
+-- whether the lift at place j of round r has exactly b over S, multiplied out
+abbrev pub rightShare : List Lift → ℕ → ℕ → Bool
+rightShare ls r j =
+    eqb (share ls r j .num * sumOf New r ls) (liftAt r ls j .new .measure * share ls r j .den) && ltb 0 (share ls r j .den)
+
+-- every lift of both new rounds
+abbrev pub rightShares : Bool
+rightShares = rightShare small 1 0 && (rightShare small 1 1 && rightShare small 2 0)
