@@ -1,16 +1,20 @@
 -- The whole text by its cases: the length, a refusal, the choices; and that the code's text is it and has room. Assumes nothing.
-use Prim.Native.Nat.{ℕ, _*_, _/_, _%_, _≤_, _<_}
-use mathlib.Core.Path.{_≡_, ap, _∙_}
+use Prim.Native.Nat.{ℕ, _*_, _/_, _%_, _≤_, _<_, min}
+use mathlib.Core.Path.{_≡_, refl, sym, ap, _∙_}
 use mathlib.Core.List.{List, _++_}
 use native.Mathlib.Omega.{arith}
 use lib.ListN.{length, take}
 use borrow.Author.Tests.{eq-eqb, ne-eqb, lt-ltb, le-ltb}
 use Rattle.sheet.specs.Sheet.{mostRounds, longest}
 use Rattle.sheet.specs.Reading.{Numbered, numbered}
-use Rattle.selection.specs.Choice.{written, refusal, replied, reply, output}
-use Rattle.report.specs.Report.{mostWords, sheetWords, randomWords, lines, wordsLine, refusedLine, textOf, report, pairLines, textRoom}
+use Rattle.selection.specs.Choice.{written, Reply, refusal, replied, reply, output}
+use Rattle.panel.specs.Slices.{told}
+use Rattle.panel.specs.declared.Answer.{Answer}
+use Rattle.panel.specs.declared.Answer.the-variants.{Chosen}
+use Rattle.report.specs.Report.{mostWords, sheetWords, randomWords, lines, wordsLine, refusedLine, textOf, report, pairLines, printedWords, textRoom, Ready}
 use Rattle.report.proofs.Choices.{made}
 use Rattle.report.proofs.Sizes.{chosen-le}
+use Rattle.report.proofs.Words.{take-min}
 use Rattle.report.proofs.Pairs.{pair-lines}
 
 -- ---- the length
@@ -24,9 +28,10 @@ module _ (sheet : List ℕ) (size : ℕ) (words : List ℕ) where
   unfolding report
   report-long h l = rw (eq-eqb (size % 4) 0 h, lt-ltb longest (size / 4) l)
 
-  pub report-text : size % 4 ≡ 0 → size / 4 ≤ longest → report sheet size words ≡ textOf (sheetWords (take size sheet)) (randomWords words)
+  pub report-text : {n : ℕ} → n ≡ min (length sheet) size → size % 4 ≡ 0 → size / 4 ≤ longest
+      → report sheet size words ≡ textOf (sheetWords (take n sheet)) (randomWords words)
   unfolding report
-  report-text h l = rw (eq-eqb (size % 4) 0 h, le-ltb longest (size / 4) l)
+  report-text e h l = rw (eq-eqb (size % 4) 0 h, le-ltb longest (size / 4) l, e, take-min sheet size refl)
 
 -- ---- the reply
 
@@ -54,3 +59,26 @@ module _ (sheet ws : List ℕ) {n k : ℕ} (e : reply sheet ws 0 (2 * mostRounds
         is = rw (p, e, m .is);
         room = rw p (chosen-le (m .choices) k (m .printable) (omega (arith, m .few, m .count)) (omega (arith, m .read, m .inside)));
       }
+
+-- what the code writes of a reply is the text
+pub record Told (sheet ws : List ℕ) (r : Reply) (out : List ℕ) : Type 0 where
+  pub ready : Ready r out
+  pub is : textOf sheet ws ≡ printedWords r out
+
+pub text-told : (sheet ws : List ℕ) (r : Reply) (out : List ℕ) {out′ : List ℕ} → r ≡ reply sheet ws 0 (2 * mostRounds) → length ws ≤ mostWords
+    → length out ≡ 2 * mostRounds → length out′ ≡ length out → out′ ≡ output sheet ws 0 out → Told sheet ws r out′
+text-told sheet ws (refusal x) out e h l l′ o = record { ready = tt; is = text-refused sheet ws (sym e) }
+text-told sheet ws (replied n k) out e h l l′ o =
+    let t = text-chosen sheet ws (sym e) out h l l′ o in
+    record { ready = (t .inside, t .room); is = sym (t .is) }
+
+-- ---- the answer
+
+-- what is asked of an answer with choices
+pub ready-chosen : (out : List ℕ) {a : Answer} {n k : ℕ} → a ≡ Chosen n k → Ready (told a) out → Ready (replied n k) out
+ready-chosen out e h = rw e at h
+
+-- what is printed of a refusal is its number and its place
+pub printed-refused : (out : List ℕ) {r : Reply} {x : Numbered} {number place : ℕ} → r ≡ refusal x → number ≡ x .number → place ≡ x .place
+    → printedWords r out ≡ refusedLine (numbered number place)
+printed-refused out e n p = rw (e, n, p)

@@ -45,8 +45,10 @@ pub three : {old : List ℕ} {from : ℕ} → from ≤ length old → {a b c tex
 three h w v u = rw (← append-assoc) (and-then h (and-then h w v) u)
 
 -- what is written at the start of a text stands there
-pub at-start : {old new text : List ℕ} {next : ℕ} → Appended old 0 new text next → take next text ≡ new
-at-start {old} {new} {next = next} w = rw (w .is) (take-at new _ next (sym (w .ends ∙ zero-add (length new))))
+pub at-start : {old new whole text : List ℕ} {next : ℕ} → whole ≡ new → Appended old 0 new text next → (take next text ≡ whole) × (next ≤ length text)
+at-start {old} {new} {next = next} e w =
+    let n : next ≡ length new = w .ends ∙ zero-add (length new) in
+    (rw (w .is) (take-at new _ next (sym n)) ∙ sym e, rw (w .is) (omega (arith, length-append new (drop (0 + length new) old))))
 
 -- ---- loops
 

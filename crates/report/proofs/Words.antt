@@ -94,18 +94,21 @@ length-words size bytes = length-tabulate (length bytes / size) (wordAt size byt
 pub all-words : (size : ℕ) (bytes : List ℕ) → take (length bytes / size) (wordsOf size bytes) ≡ wordsOf size bytes
 all-words size bytes = take-all (length bytes / size) (wordsOf size bytes) (omega (arith, length-words size bytes))
 
-pub first-words : (size most : ℕ) (bytes : List ℕ) → take (min (length bytes / size) most) (wordsOf size bytes) ≡ take most (wordsOf size bytes)
-first-words size most bytes = go (leb (length bytes / size) most) refl
+-- as many as there are, `most` at most
+pub take-min : (l : List ℕ) (most : ℕ) {n : ℕ} → n ≡ length l → take (min n most) l ≡ take most l
+take-min l most {n} e = go (leb n most) refl
   where
-    go : (t : Bool) → leb (length bytes / size) most ≡ t → take (min (length bytes / size) most) (wordsOf size bytes) ≡ take most (wordsOf size bytes)
-    go true e =
-        let h = leb-true (length bytes / size) most e in
-        let m : min (length bytes / size) most ≡ length bytes / size = omega arith in
-        ap (λ n. take n (wordsOf size bytes)) m ∙ all-words size bytes ∙ sym (take-all most (wordsOf size bytes) (omega (arith, length-words size bytes)))
-    go false e =
-        let h = leb-false (length bytes / size) most e in
-        let m : min (length bytes / size) most ≡ most = omega arith in
-        ap (λ n. take n (wordsOf size bytes)) m
+    go : (t : Bool) → leb n most ≡ t → take (min n most) l ≡ take most l
+    go true q =
+        let h = leb-true n most q in
+        take-all (min n most) l (omega arith) ∙ sym (take-all most l (omega arith))
+    go false q =
+        let h = leb-false n most q in
+        let m : min n most ≡ most = omega arith in
+        rw m
+
+pub first-words : (size most : ℕ) (bytes : List ℕ) → take (min (length bytes / size) most) (wordsOf size bytes) ≡ take most (wordsOf size bytes)
+first-words size most bytes = take-min (wordsOf size bytes) most (sym (length-words size bytes))
 
 pub random-le : (bytes : List ℕ) → length (randomWords bytes) ≤ mostWords
 random-le bytes = rw length-take (omega arith)

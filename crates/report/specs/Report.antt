@@ -124,9 +124,19 @@ pairLines [] = []
 pairLines (w ∷ []) = []
 pairLines (w ∷ v ∷ ws) = line (placeOf w .round) (payload v) (placeOf w .measure) ++ pairLines ws
 
+-- what is printed of a reply and the output words
+abbrev pub printedWords : Reply → List ℕ → List ℕ
+printedWords (refusal x) out = refusedLine x
+printedWords (replied n k) out = pairLines (take (2 * n) out) ++ wordsLine k
+
 -- room for every text
 abbrev pub textRoom : ℕ
 textRoom = 2048
+
+-- a reply whose choices stand in the output words, with room for their text
+abbrev pub Ready : Reply → List ℕ → Type 0
+Ready (refusal x) out = Unit {0}
+Ready (replied n k) out = (2 * n ≤ length out) × (length (pairLines (take (2 * n) out) ++ wordsLine k) ≤ textRoom)
 
 -- the words ws stand first among some words, n of them
 pub record Decoded (ws words : List ℕ) (n : ℕ) : Type 0 where

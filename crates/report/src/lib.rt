@@ -4,12 +4,18 @@ ghost use mathlib.Core.Path.{_≡_};
 ghost use mathlib.Core.List.{[], _∷_, _++_};
 ghost use Prim.Native.Nat.{_+_, _*_, _/_, _^_, _≤_, _<_, min};
 ghost use lib.ListN.{length, take};
+ghost use Rattle.sheet.specs.Sheet.{longest};
 ghost use Rattle.sheet.specs.Reading.{numbered};
-ghost use Rattle.report.specs.Report.{littleEndian, wordsOf, mostWords, sheetWords, randomWords, decimal, field, line as lineOf, pairLines, wordsLine, refusedLine, Decoded, Appended};
+ghost use Rattle.panel.specs.Slices.{told};
+ghost use Rattle.report.specs.Report.{littleEndian, wordsOf, mostWords, sheetWords, randomWords, decimal, field, line as lineOf, pairLines, wordsLine, refusedLine, textOf, report as reportOf, printedWords, textRoom, Ready, Decoded, Appended};
+use panel::Answer;
 use sheet::Sheet;
 
 // How many words of the file of random words are read.
-pub const MOST_WORDS: usize = 4096;
+const MOST_WORDS: usize = 4096;
+
+// Room for every text.
+pub const ROOM: usize = 2048;
 
 // ---- the files
 
@@ -57,7 +63,7 @@ fn words64(bytes: &[u8], words: &mut [u64])
 }
 
 // The words of the sheet's bytes.
-pub fn sheet_words(bytes: &[u8], words: &mut [u32]) -> usize
+fn sheet_words(bytes: &[u8], words: &mut [u32]) -> usize
     requires { ⌜ length (now bytes) / 4 ≤ length (now words) ⌝ }
     ensures { λ r. ⌜ Decoded (sheetWords (now (bytes .entry))) (now (words .exit)) r ⌝ }
 {
@@ -67,7 +73,7 @@ pub fn sheet_words(bytes: &[u8], words: &mut [u32]) -> usize
 }
 
 // The first words of the file of random words.
-pub fn random_words(bytes: &[u8], words: &mut [u64]) -> usize
+fn random_words(bytes: &[u8], words: &mut [u64]) -> usize
     requires { ⌜ mostWords ≤ length (now words) ⌝ }
     ensures { λ r. ⌜ Decoded (randomWords (now (bytes .entry))) (now (words .exit)) r ⌝ }
 {
@@ -172,7 +178,7 @@ fn put_words(text: &mut [u8], from: usize, words: u64) -> usize
 }
 
 // The text of choices: a line for each, and how many words were read.
-pub fn put_choices(text: &mut [u8], from: usize, pairs: &[u32], words: u64) -> usize
+fn put_choices(text: &mut [u8], from: usize, pairs: &[u32], words: u64) -> usize
     requires { ⌜ from + length (pairLines (now pairs) ++ wordsLine words) ≤ length (now text) ⌝ }
     ensures { λ r. ⌜ Appended (now (text .entry)) from (pairLines (now (pairs .entry)) ++ wordsLine words) (now (text .exit)) r ⌝ }
 {
@@ -181,11 +187,62 @@ pub fn put_choices(text: &mut [u8], from: usize, pairs: &[u32], words: u64) -> u
 }
 
 // The text of a refusal.
-pub fn put_refusal(text: &mut [u8], from: usize, number: u64, place: u64) -> usize
+fn put_refusal(text: &mut [u8], from: usize, number: u64, place: u64) -> usize
     requires { ⌜ from + length (refusedLine (numbered number place)) ≤ length (now text) ⌝ }
     ensures { λ r. ⌜ Appended (now (text .entry)) from (refusedLine (numbered number place)) (now (text .exit)) r ⌝ }
 {
     let second = put_bytes(text, from, b"refused ");
     let third = put_field(text, second, number, b' ');
     put_field(text, third, place, b'\n')
+}
+
+// The text of an answer and the output words with it.
+fn put_answer(text: &mut [u8], answer: Answer, out: &[u32]) -> usize
+    requires { ⌜ Ready (told answer) (now out) ⌝ }
+    requires { ⌜ textRoom ≤ length (now text) ⌝ }
+    ensures is { λ r. ⌜ take r (now (text .exit)) ≡ printedWords (told answer) (now (out .entry)) ⌝ }
+    ensures fits { λ r. ⌜ r ≤ length (now (text .exit)) ⌝ }
+{
+    match answer {
+        Answer::Sheet(x) => put_refusal(text, 0, x.number() as u64, x.place() as u64),
+        Answer::Start(at) => put_refusal(text, 0, 11, at as u64),
+        Answer::Output(need) => put_refusal(text, 0, 12, need as u64),
+        Answer::Words(round) => put_refusal(text, 0, 13, round as u64),
+        Answer::Chosen(count, read) => {
+            let end = 2 * count;
+            put_choices(text, 0, &out[..end], read as u64)
+        }
+    }
+}
+
+// The text of a sheet's bytes, with the words of the other file.
+fn put_text(sheet: &[u8], words: &[u8], text: &mut [u8]) -> usize
+    requires { ⌜ length (now sheet) / 4 ≤ longest ⌝ }
+    requires { ⌜ textRoom ≤ length (now text) ⌝ }
+    ensures is { λ r. ⌜ take r (now (text .exit)) ≡ textOf (sheetWords (now (sheet .entry))) (randomWords (now (words .entry))) ⌝ }
+    ensures fits { λ r. ⌜ r ≤ length (now (text .exit)) ⌝ }
+{
+    let mut lent = [0u32; Sheet::LONGEST];
+    let mut random = [0u64; MOST_WORDS];
+    let mut out = [0u32; 2 * Sheet::MOST_ROUNDS];
+    let n = sheet_words(sheet, &mut lent);
+    let m = random_words(words, &mut random);
+    let answer = panel::choose(&lent[..n], &random[..m], 0, &mut out);
+    put_answer(text, answer, &out)
+}
+
+// The whole text, from what was read of the sheet, its true length in bytes, and what was read of the words; answers how long it is.
+pub fn report(sheet: &[u8], size: usize, words: &[u8], text: &mut [u8]) -> usize
+    requires { ⌜ textRoom ≤ length (now text) ⌝ }
+    ensures is { λ r. ⌜ take r (now (text .exit)) ≡ reportOf (now (sheet .entry)) size (now (words .entry)) ⌝ }
+    ensures fits { λ r. ⌜ r ≤ length (now (text .exit)) ⌝ }
+{
+    if size % 4 != 0 {
+        return put_refusal(text, 0, 1, size as u64);
+    }
+    if Sheet::LONGEST < size / 4 {
+        return put_refusal(text, 0, 1, (size / 4) as u64);
+    }
+    let n = fewer(sheet.len(), size);
+    put_text(&sheet[..n], words, text)
 }
