@@ -1,10 +1,13 @@
--- The whole text by its cases: the length, a refusal, the choices; and that the code's text is it and has room. Assumes nothing.
+-- The whole text by its cases: the length, a refusal, the choices; which bytes decide it; and that the code's text is it and has room. Assumes nothing.
 use Prim.Native.Nat.{ℕ, _*_, _/_, _%_, _≤_, _<_, min}
 use mathlib.Core.Path.{_≡_, refl, sym, ap, _∙_}
+use mathlib.Core.Bool.{Bool, true, false, cond}
 use mathlib.Core.List.{List, _++_}
 use native.Mathlib.Omega.{arith}
+use lib.Dec.{eqb, ltb}
 use lib.ListN.{length, take}
-use borrow.Author.Tests.{eq-eqb, ne-eqb, lt-ltb, le-ltb}
+use lib.Seq.{take-take}
+use borrow.Author.Tests.{eq-eqb, ne-eqb, lt-ltb, le-ltb, eqb-true, ltb-false}
 use Rattle.sheet.specs.Sheet.{mostRounds, longest}
 use Rattle.sheet.specs.Reading.{Numbered, numbered}
 use Rattle.selection.specs.Choice.{written, Reply, refusal, replied, reply, output}
@@ -14,7 +17,7 @@ use Rattle.panel.specs.declared.Answer.the-variants.{Chosen}
 use Rattle.report.specs.Report.{mostWords, sheetWords, randomWords, lines, wordsLine, refusedLine, textOf, report, pairLines, printedWords, textRoom, Ready}
 use Rattle.report.proofs.Choices.{made}
 use Rattle.report.proofs.Sizes.{chosen-le}
-use Rattle.report.proofs.Words.{take-min}
+use Rattle.report.proofs.Words.{take-min, random-first}
 use Rattle.report.proofs.Pairs.{pair-lines}
 
 -- ---- the length
@@ -32,6 +35,21 @@ module _ (sheet : List ℕ) (size : ℕ) (words : List ℕ) where
       → report sheet size words ≡ textOf (sheetWords (take n sheet)) (randomWords words)
   unfolding report
   report-text e h l = rw (eq-eqb (size % 4) 0 h, le-ltb longest (size / 4) l, e, take-min sheet size refl)
+
+  -- no byte behind the longest sheet and the first words matters
+  pub report-first : report (take (4 * longest) sheet) size (take (8 * mostWords) words) ≡ report sheet size words
+  unfolding report
+  report-first = rw (random-first words) (go (eqb (size % 4) 0) refl (ltb longest (size / 4)) refl)
+    where
+      text : List ℕ → List ℕ
+      text bytes = textOf (sheetWords (take size bytes)) (randomWords words)
+
+      go : (t : Bool) → eqb (size % 4) 0 ≡ t → (u : Bool) → ltb longest (size / 4) ≡ u
+          → cond t (cond u (refusedLine (numbered 1 (size / 4))) (text (take (4 * longest) sheet))) (refusedLine (numbered 1 size))
+          ≡ cond t (cond u (refusedLine (numbered 1 (size / 4))) (text sheet)) (refusedLine (numbered 1 size))
+      go true p true q = refl
+      go true p false q = rw (take-take size (4 * longest) sheet (omega (arith, eqb-true (size % 4) 0 p, ltb-false longest (size / 4) q)))
+      go false p u q = refl
 
 -- ---- the reply
 

@@ -1,13 +1,13 @@
 -- Words of bytes: a word read from its last byte on, and words stored one after another, for any size. Assumes nothing.
-use Prim.Native.Nat.{ℕ, suc, _+_, _*_, _-_, _/_, _^_, _≤_, _<_, min}
+use Prim.Native.Nat.{ℕ, zero, suc, _+_, _*_, _-_, _/_, _^_, _≤_, _<_, min}
 use mathlib.Core.Path.{_≡_, refl, sym, ap, _∙_}
 use mathlib.Core.Bool.{Bool, true, false}
-use mathlib.Core.List.{List, _∷_, _++_}
+use mathlib.Core.List.{List, [], _∷_, _++_}
 use native.Mathlib.Nat.{pow-suc, pow-le-pow-right, le-div-iff-mul-le, mul-le-mul-left}
 use native.Mathlib.Omega.{arith}
 use lib.Dec.{eqb, leb}
 use lib.ListN.{length, getD, set, take, drop, length-append, length-set, length-take, length-drop, drop-of-length-le}
-use lib.Seq.{getD-set-same, getD-set-other, drop-cons, length-take-le, take-all, take-at, getD-take, ext-getD}
+use lib.Seq.{getD-set-same, getD-set-other, drop-cons, length-take-le, take-all, take-at, take-take, getD-take, ext-getD}
 use borrow.Author.Tests.{eqb-true, eqb-false, leb-true, leb-false}
 use Rattle.sheet.specs.Tables.{tabulate}
 use Rattle.sheet.proofs.Tables.{getD-tabulate, length-tabulate}
@@ -128,3 +128,37 @@ decoded size n bytes words {part} {ws} m h p e =
       count = sym l;
       fits = rw length-append (omega (arith, l));
     })
+
+-- ---- the first bytes suffice
+
+-- a part that lies in the first n elements
+within : (m i n : ℕ) (l : List ℕ) → i + m ≤ n → take m (drop i (take n l)) ≡ take m (drop i l)
+within m zero n l h = take-take m n l (omega arith)
+within m (suc i) zero l h = absurd (omega arith)
+within m (suc i) (suc n) [] h = refl
+within m (suc i) (suc n) (x ∷ l) h = within m i n l (omega arith)
+
+length-random : (bytes : List ℕ) → length (randomWords bytes) ≡ min mostWords (length bytes / 8)
+length-random bytes = rw (length-take, length-words)
+
+random-at : (bytes : List ℕ) (k : ℕ) → k < length (randomWords bytes) → getD (randomWords bytes) k 0 ≡ wordAt 8 bytes k
+unfolding wordsOf
+random-at bytes k h =
+    let n = length-random bytes in
+    getD-take mostWords (wordsOf 8 bytes) k 0 (omega arith) ∙ getD-tabulate (length bytes / 8) (wordAt 8 bytes) k (omega arith)
+
+-- no byte behind those of the first words matters
+pub random-first : (bytes : List ℕ) → randomWords (take (8 * mostWords) bytes) ≡ randomWords bytes
+random-first bytes = ext-getD 0 (randomWords first) (randomWords bytes) long same
+  where
+    first : List ℕ
+    first = take (8 * mostWords) bytes
+
+    long : length (randomWords first) ≡ length (randomWords bytes)
+    long = omega (arith, length-random first, length-random bytes, length-take (8 * mostWords) bytes)
+
+    same : (k : ℕ) → k < length (randomWords first) → getD (randomWords first) k 0 ≡ getD (randomWords bytes) k 0
+    same k h =
+        random-at first k h
+        ∙ ap littleEndian (within 8 (8 * k) (8 * mostWords) bytes (omega (arith, random-le first)))
+        ∙ sym (random-at bytes k (omega (arith, long)))

@@ -14,6 +14,9 @@ use sheet::Sheet;
 // How many words of the file of random words are read.
 const MOST_WORDS: usize = 4096;
 
+// How many bytes of it are read.
+pub const WORDS_BYTES: usize = 8 * MOST_WORDS;
+
 // Room for every text.
 pub const ROOM: usize = 2048;
 
