@@ -1,15 +1,18 @@
-# make run    draws from the random words in example/, by the proved code
+# make run    chooses for the quarter in example/quarter, by the proved program
 # make test   the whole gate: layout, proofs, must-fail edits, programs, and the comparison with Rust
 
-CARGO = cd harness && cargo
+.PHONY: run test program archive
 
-.PHONY: run test archive
-
-run: archive
-	@$(CARGO) run --quiet --release --offline --bin draws -- ../example/words.bin 3 6 100 1 1000000
+run: program
+	@cd example/quarter && ../../target/bin/choose
 
 test:
 	@sh .ci/gate
+
+program:
+	@mkdir -p target
+	@echo 'proving and building the program: some minutes the first time, then at once' >&2
+	@rt check choose >target/program.log 2>&1 || { cat target/program.log; exit 1; }
 
 archive:
 	@mkdir -p target

@@ -1,6 +1,7 @@
 //! Compares the archive of proved functions with an independent reference.
 
 pub mod archive;
+pub mod examples;
 pub mod reference;
 pub mod seeded;
 pub mod sheets;
