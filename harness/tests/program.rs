@@ -193,6 +193,20 @@ fn long_sheets_agree() {
 }
 
 #[test]
+fn stack_of_a_mebibyte_suffices() {
+    let folder = Folder::new();
+    let (sheet, words) = longest(&mut Seeded::new(23));
+    folder.write(SHEET_FILE, Some(&sheet));
+    folder.write(WORDS_FILE, Some(&words));
+    let limited = ["-c", "ulimit -s 1024 && exec \"$0\"", PROGRAM];
+    let mut shell = Command::new("sh");
+    let output = shell.args(limited).current_dir(&folder.path).output();
+    let output = output.expect("the shell starts");
+    let expected = reference::report(&sheet, &words);
+    assert!(output.stdout == expected.as_bytes(), "{output:?}");
+}
+
+#[test]
 fn sizes_beyond_32_bits_are_told() {
     let folder = Folder::new();
     let sheet = File::create(folder.path.join(SHEET_FILE)).expect("the file is made");

@@ -489,15 +489,15 @@ fn choose_fitting(
     if out.len() < need {
         return Answer::Output(need);
     }
-    let p = select_all(sheet, lifts, words, start);
-    if p.short != 0 {
-        return Answer::Words(p.short);
+    let picks = select_all(sheet, lifts, words, start);
+    if picks.short != 0 {
+        return Answer::Words(picks.short);
     }
-    let count = p.count;
-    let firsts = p.firsts;
-    let seconds = p.seconds;
+    let count = picks.count;
+    let firsts = picks.firsts;
+    let seconds = picks.seconds;
     write_pairs(&firsts[..count], &seconds[..count], out);
-    Answer::Chosen(count, p.next - start)
+    Answer::Chosen(count, picks.next - start)
 }
 
 // The whole choice: refused, with nothing written and no word used up, or one lift for each new round, written as pairs.

@@ -107,9 +107,12 @@ cases =
       reply = replied 2 3;
       written = pair 1 2 2 ++ (pair 2 4 3 ++ (9 ∷ []));
     }
-    -- 11 before 12 before 13; "13. The chance words end before a needed draw is finished. Place: the new round."
-    ∷ refused rounds (0 ∷ []) 2 [] 11 2
+    -- 11 before 12, where no word is needed; 12 before 13, and where the words suffice; "13. The chance words end before a needed draw is
+    -- finished. Place: the new round."
+    ∷ refused (three 13) (0 ∷ []) 2 [] 11 2
+    ∷ refused (three 13) (0 ∷ []) 2 (7 ∷ 8 ∷ []) 11 2
     ∷ refused rounds (0 ∷ []) 1 (7 ∷ 8 ∷ 9 ∷ []) 12 4
+    ∷ refused rounds (0 ∷ 0 ∷ 1 ∷ []) 0 (7 ∷ 8 ∷ 9 ∷ []) 12 4
     ∷ refused rounds (0 ∷ []) 1 (6 ∷ 7 ∷ 8 ∷ 9 ∷ []) 13 1
     ∷ refused rounds (0 ∷ 0 ∷ []) 0 (6 ∷ 7 ∷ 8 ∷ 9 ∷ []) 13 2
     -- 1 to 10 before them
