@@ -6,7 +6,7 @@ use native.Mathlib.Omega.{arith}
 use lib.ListN.{length, take}
 use lib.Seq.{take-take}
 use Rattle.sheet.specs.Sheet.{longest}
-use Rattle.report.specs.Report.{mostWords, report}
+use Rattle.report.specs.Report.{report}
 use Rattle.report.proofs.Reports.{report-first}
 use Rattle.choose.specs.Printing.{Read, Printed}
 

@@ -1,3 +1,5 @@
+pub mod Lists
+pub mod Tests
 pub mod Sums
 pub mod Intervals
 pub mod Fractions

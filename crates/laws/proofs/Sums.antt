@@ -2,13 +2,14 @@
 use Prim.Native.Nat.{ℕ, zero, suc, _+_, _*_, _≤_, _<_}
 use mathlib.Core.Path.{_≡_, refl, sym, ap, ap₂, _∙_}
 use mathlib.Core.Bool.{Bool, true, false, cond}
-use mathlib.Core.List.{List, [], _∷_, map}
+use mathlib.Core.List.{List, [], _∷_, map, List·Memᴰ·head, List·Memᴰ·tail}
 use native.Mathlib.Nat.{add-assoc, add-comm, suc-add, zero-add, mul-one, mul-zero, zero-mul, suc-mul}
 use native.Mathlib.Omega.{arith}
 use lib.ListN.{length, getD}
 use lib.Dec.{ltb, eqb, eqb·suc-zero, eqb·zero-suc, eqb·suc-suc}
-use borrow.Author.Tests.{lt-ltb, le-ltb}
+use borrow.Author.Tests.{eqb-true, lt-ltb, le-ltb}
 use Rattle.laws.specs.Sum.{over, Σ, total, totalBy, indicator, count}
+use Rattle.laws.proofs.Lists.{All}
 
 -- ---- over a range
 
@@ -159,3 +160,28 @@ pub totalBy-map : {A : Type 0} (key value : A → ℕ) (k : ℕ) (xs : List A) �
 unfolding total totalBy
 totalBy-map key value k [] = refl
 totalBy-map key value k (x ∷ xs) = ap (λ t. cond (eqb (key x) k) (value x) 0 + t) (totalBy-map key value k xs)
+
+module _ {A : Type 0} (key : A → ℕ) (k : ℕ) where
+  -- no value with the key, no sum
+  pub totalBy-none : (v : A → ℕ) (xs : List A) → All (λ x. key x ≡ k → v x ≡ 0) xs → totalBy key v k xs ≡ 0
+  unfolding totalBy
+  totalBy-none v [] h = refl
+  totalBy-none v (x ∷ xs) h = go (eqb (key x) k) refl (totalBy-none v xs (λ y m. h y (List·Memᴰ·tail m)))
+    where
+      go : (t : Bool) → eqb (key x) k ≡ t → totalBy key v k xs ≡ 0 → cond t (v x) 0 + totalBy key v k xs ≡ 0
+      go true e r = omega (arith, h x (List·Memᴰ·head refl) (eqb-true (key x) k e))
+      go false e r = omega arith
+
+  -- values that are at most two others together
+  pub totalBy-sum : (u v w : A → ℕ) → ((x : A) → u x ≤ v x + w x) → (xs : List A) → totalBy key u k xs ≤ totalBy key v k xs + totalBy key w k xs
+  unfolding totalBy
+  totalBy-sum u v w h [] = omega arith
+  totalBy-sum u v w h (x ∷ xs) = go (eqb (key x) k) (totalBy-sum u v w h xs)
+    where
+      go : (t : Bool) → totalBy key u k xs ≤ totalBy key v k xs + totalBy key w k xs
+          → cond t (u x) 0 + totalBy key u k xs ≤ (cond t (v x) 0 + totalBy key v k xs) + (cond t (w x) 0 + totalBy key w k xs)
+      go true r = omega (arith, h x)
+      go false r = omega arith
+
+  pub totalBy-le : (u v : A → ℕ) → ((x : A) → u x ≤ v x) → (xs : List A) → totalBy key u k xs ≤ totalBy key v k xs
+  totalBy-le u v h xs = omega (arith, totalBy-sum u v (λ _. 0) (λ x. omega (arith, h x)) xs, totalBy-none (λ _. 0) xs (λ x m e. refl))

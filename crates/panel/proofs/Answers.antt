@@ -16,10 +16,8 @@ use Rattle.draw.specs.Run.{Run, finished, short as ended, drew, follow, run}
 use Rattle.round.specs.Choice.{Selection, outcome}
 use Rattle.sheet.specs.Sheet.{mostRounds, Lift, lifts}
 use Rattle.sheet.specs.Reading.{Numbered, numbered}
-use Rattle.laws.specs.Sum.{indicator, count}
-use Rattle.laws.proofs.Sums.{Σ-mono, Σ-const, indicator-le}
 use Rattle.sheet.specs.Rounds.{named, inUse}
-use Rattle.sheet.proofs.Searches.{those-count}
+use Rattle.sheet.proofs.Those.{those-few}
 use Rattle.sheet.specs.Refusal.{refused, fits, verdict}
 use Rattle.sheet.specs.declared.Side.the-variants.{New}
 use Rattle.selection.specs.Choice.{heldIn, planOf, liftAt, Choice, Panel, chosen, short, preceded, andThen, panelFrom, panel, Reply, refusal, replied, ofPanel, ofLent, reply, written, writtenOf, unlessRefused, output}
@@ -121,11 +119,8 @@ panel-count ls ws from (r ∷ rs) cs next e = go (run largest ws from (planOf r 
 pub left : {x : Numbered} {y : Reply} (out new : List ℕ) → refusal x ≡ y → (refusal x ≡ y) × (out ≡ unlessRefused y out new)
 left out new e = (e, rw (← e))
 
-count-le : (n : ℕ) (p : ℕ → Bool) → count n p ≤ n
-count-le n p = omega (arith, Σ-mono n {f = λ i. indicator (p i)} {g = λ i. 1} (λ i h. indicator-le (p i)), Σ-const n 1)
-
 pub few-rounds : (ls : List Lift) → length (inUse New ls) ≤ mostRounds
-few-rounds ls = rw (those-count (λ r. ltb 0 (named New r ls)) 1 mostRounds) (count-le mostRounds (λ t. ltb 0 (named New (1 + t) ls)))
+few-rounds ls = those-few (λ r. ltb 0 (named New r ls)) 1 mostRounds
 
 module _ (ls : List Lift) (ws : List ℕ) (start : ℕ) (out : List ℕ) where
   pub late : (n : ℕ) → length ws < start → refusal (numbered 11 start) ≡ ofLent ls n ws start (length out)

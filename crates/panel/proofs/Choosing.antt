@@ -30,7 +30,8 @@ use Rattle.selection.specs.Choice.{withSums, donorsOf, liftsOf, heldIn, planOf,
 use Rattle.panel.specs.Slices.{sendersOf, withTable, heldBy, roundOf, Even, Within, Lent, begins, partOf, sendersIn, donorsIn, liftsIn, marksIn, Small, Ready, picked, after, stepped, goOn, steppedFrom, noPicks, firstWord, secondWord, Gathers, Picked}
 use Rattle.panel.specs.declared.Senders.{Senders as Donating}
 use Rattle.panel.specs.declared.Picks.{Picks}
-use Rattle.selection.proofs.RoundsFit.{those-head, Senders, none, one, two, senders, round-fits, round-bounded, round-stands}
+use Rattle.sheet.proofs.Those.{those-head}
+use Rattle.selection.proofs.RoundsFit.{Senders, none, one, two, senders, round-fits, round-bounded, round-stands}
 use Rattle.panel.proofs.Lending.{senders-donors, heldBy-of, roundOf-of}
 
 -- an outcome is at most 3

@@ -7,25 +7,21 @@ use native.Mathlib.Omega.{arith}
 use lib.Dec.{eqb, ltb}
 use lib.ListN.{length, getD, take, List·getD-eq-default}
 use lib.Seq.{getD-take, getD-drop}
-use borrow.Author.Tests.{lt-ltb, le-ltb, ltb-true, ltb-false}
+use borrow.Author.Tests.{lt-ltb, ltb-true, ltb-false}
 use Rattle.laws.specs.Sum.{indicator}
 use Rattle.sheet.specs.Sheet.{mostLifts, mostRounds, Lift, lifts}
 use Rattle.sheet.specs.Rounds.{ofRound}
 use Rattle.sheet.specs.Tables.{fieldOf, below, ByRound}
 use Rattle.sheet.specs.Law.{Listed, Fitting}
 use Rattle.sheet.specs.declared.Field.the-variants.{Number}
+use Rattle.sheet.proofs.Placing.{below-zero}
 use Rattle.sheet.proofs.Trips.{read-theorem}
 use Rattle.panel.specs.Slices.{Lent, Small, Ready}
 use Rattle.panel.proofs.Choosing.{Lends, ready}
 
 -- ---- the numbers of lifts
 
--- no lift is below round 0, and all are below the round behind the last
-below-none : (ls : List Lift) → below 0 ls ≡ 0
-unfolding below
-below-none [] = refl
-below-none (l ∷ ls) = omega (arith, below-none ls, ap indicator (le-ltb (l .new .round) 0 (omega arith)))
-
+-- all lifts are below the round behind the last
 below-all : (n : ℕ) (ls : List Lift) → Listed n ls → below (suc mostRounds) ls ≡ length ls
 unfolding below Listed
 below-all n [] d = refl
@@ -46,7 +42,7 @@ numbers-small n r (l ∷ ls) d j = go (eqb (l .new .round) r) j (numbers-small (
 -- and so have those of the rounds before one
 module _ (n : ℕ) {ls : List Lift} {ns : List ℕ} (d : Listed n ls) (b : ByRound (fieldOf Number) ls ns) where
   before-small : (r : ℕ) → r ≤ suc mostRounds → (i : ℕ) → i < below r ls → getD ns i 0 < 2 ^ 28
-  before-small zero h i lt = absurd (omega (arith, below-none ls))
+  before-small zero h i lt = absurd (omega (arith, below-zero ls))
   before-small (suc r) h i lt = go (ltb i (below r ls)) refl (before-small r (omega arith) i)
     where
       go : (t : Bool) → ltb i (below r ls) ≡ t → (i < below r ls → getD ns i 0 < 2 ^ 28) → getD ns i 0 < 2 ^ 28

@@ -16,13 +16,12 @@ use Rattle.round.specs.Share.{Initial, here, elsewhere}
 use Rattle.sheet.specs.Sheet.{mostRounds, Lift}
 use Rattle.sheet.specs.Rounds.{those, sends, donors}
 use Rattle.sheet.specs.Tables.{bits}
-use Rattle.sheet.proofs.Searches.{those-ext}
+use Rattle.sheet.proofs.Those.{those-ext, those-head, from, from-step, from-none}
 use Rattle.selection.specs.Choice.{donorNumber, further, heldAt, heldAmong}
 use Rattle.panel.specs.Slices.{bitAt, first, sendersOf, numberOf, heldPlace, heldBy, roundOf, Even}
 use Rattle.panel.specs.declared.Senders.the-variants.{None, One, Two}
 use Rattle.panel.specs.declared.Found.{Found}
 use Rattle.panel.specs.declared.Found.the-variants.{At, Nothing}
-use Rattle.selection.proofs.RoundsFit.{those-head}
 
 -- ---- bits
 
@@ -96,44 +95,26 @@ roundOf-of ds (l ∷ us) = rw (number-of ds (l .old .round), roundOf-of ds us)
 
 -- ---- the first round from a number up whose bit is set
 
--- those from t up
-abbrev upward : (ℕ → Bool) → ℕ → List ℕ
-upward p t = those p t (mostRounds + 1 - t)
-
--- t itself, if it passes, and those behind it
-upward-step : (p : ℕ → Bool) (t : ℕ) → t ≤ mostRounds → upward p t ≡ cond (p t) (t ∷ upward p (t + 1)) (upward p (t + 1))
-unfolding those
-upward-step p t h =
-    let e : mostRounds + 1 - t ≡ suc (mostRounds + 1 - (t + 1)) = omega arith in
-    rw (e, add-one t)
-
--- none behind the last round
-upward-none : (p : ℕ → Bool) (t : ℕ) → mostRounds < t → upward p t ≡ []
-unfolding those
-upward-none p t h =
-    let e : mostRounds + 1 - t ≡ 0 = omega arith in
-    rw e
-
 -- the first from a number up is the first from t up
-pub record Sought (p : ℕ → Bool) (from t : ℕ) : Type 0 where
-  pub same : first (upward p t) ≡ first (upward p from)
+pub record Sought (p : ℕ → Bool) (start t : ℕ) : Type 0 where
+  pub same : first (from p t) ≡ first (from p start)
 
 -- at first
-pub sought-none : (p : ℕ → Bool) (from : ℕ) → Sought p from from
-sought-none p from = record { same = refl }
+pub sought-none : (p : ℕ → Bool) (start : ℕ) → Sought p start start
+sought-none p start = record { same = refl }
 
-module _ {p : ℕ → Bool} {from t : ℕ} {x : Bool} (s : Sought p from t) (h : t ≤ mostRounds) (e : x ≡ p t) where
+module _ {p : ℕ → Bool} {start t : ℕ} {x : Bool} (s : Sought p start t) (h : t ≤ mostRounds) (e : x ≡ p t) where
   -- round t is it
-  pub sought-here : x ≡ true → At t ≡ first (upward p from)
-  sought-here q = rw (upward-step p t h, ← e, q) at (s .same)
+  pub sought-here : x ≡ true → At t ≡ first (from p start)
+  sought-here q = rw (from-step p t h, ← e, q) at (s .same)
 
   -- it comes later
-  pub sought-turn : x ≡ false → Sought p from (t + 1)
-  sought-turn q = record { same = rw (upward-step p t h, ← e, q) at (s .same) }
+  pub sought-turn : x ≡ false → Sought p start (t + 1)
+  sought-turn q = record { same = rw (from-step p t h, ← e, q) at (s .same) }
 
 -- there is none
-pub sought-end : {p : ℕ → Bool} {from t : ℕ} → mostRounds < t → Sought p from t → Nothing ≡ first (upward p from)
-sought-end {p} {from} {t} h s = rw (upward-none p t h) at (s .same)
+pub sought-end : {p : ℕ → Bool} {start t : ℕ} → mostRounds < t → Sought p start t → Nothing ≡ first (from p start)
+sought-end {p} {start} {t} h s = rw (from-none p t h) at (s .same)
 
 -- ---- the first two
 
@@ -155,7 +136,7 @@ two-of d e (a ∷ ds) q = cc
 -- round d is the first of all, and the others are those from the next up
 pub record Leads (p : ℕ → Bool) (d : ℕ) : Type 0 where
   pub upto : d ≤ mostRounds
-  pub whole : those p 1 mostRounds ≡ d ∷ upward p (d + 1)
+  pub whole : those p 1 mostRounds ≡ d ∷ from p (d + 1)
 
 module _ (p : ℕ → Bool) {d : ℕ} {x : Found} (e : x ≡ first (those p 1 mostRounds)) (f : x ≡ At d) where
   -- what a search from 1 up found
@@ -169,14 +150,14 @@ module _ (p : ℕ → Bool) {d : ℕ} {x : Found} (e : x ≡ first (those p 1 mo
           let h = those-head p 1 mostRounds d ds (q ∙ k) in
           record { upto = omega (arith, h .upto); whole = q ∙ k ∙ rw (add-one d, ← h .rest) }
 
-  module _ {y : Found} (g : y ≡ first (upward p (d + 1))) where
+  module _ {y : Found} (g : y ≡ first (from p (d + 1))) where
     -- none from the next up
     pub senders-one : y ≡ Nothing → One d ≡ sendersOf (those p 1 mostRounds)
-    senders-one h = rw (leads .whole) (one-of d (upward p (d + 1)) (sym h ∙ g))
+    senders-one h = rw (leads .whole) (one-of d (from p (d + 1)) (sym h ∙ g))
 
     -- one from the next up
     pub senders-two : {k : ℕ} → y ≡ At k → Two d k ≡ sendersOf (those p 1 mostRounds)
-    senders-two {k} h = rw (leads .whole) (two-of d k (upward p (d + 1)) (sym h ∙ g))
+    senders-two {k} h = rw (leads .whole) (two-of d k (from p (d + 1)) (sym h ∙ g))
 
 -- none from 1 up
 pub senders-none : (p : ℕ → Bool) {x : Found} → x ≡ first (those p 1 mostRounds) → x ≡ Nothing → None ≡ sendersOf (those p 1 mostRounds)

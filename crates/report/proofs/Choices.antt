@@ -1,56 +1,26 @@
 -- What a panel's choices can be: the rounds are few, each number has its bound, and no more words are read than there are. By
 -- induction along the rounds, the lifts and the words. Assumes nothing.
-use Prim.Native.Nat.{ℕ, zero, suc, _+_, _*_, _-_, _%_, _^_, _≤_, _<_}
+use Prim.Native.Nat.{ℕ, suc, _+_, _*_, _-_, _%_, _^_, _≤_, _<_}
 use mathlib.Core.Path.{_≡_, refl, ap}
 use mathlib.Core.Bool.{Bool, true, false, cond}
-use mathlib.Core.List.{List, [], _∷_}
+use mathlib.Core.List.{List, [], _∷_, List·Memᴰ·head, List·Memᴰ·tail}
 use native.Mathlib.Omega.{arith}
 use lib.Dec.{eqb, ltb}
-use lib.ListN.{length, getD, drop, length-drop}
+use lib.ListN.{length, drop, length-drop}
 use Rattle.laws.specs.Plan.{Plan, done, draw}
+use Rattle.laws.proofs.Lists.{All, all-none, all-more, all-keep, all-getD}
 use Rattle.draw.specs.Draw.{largest, K, drawFrom, drawAt}
 use Rattle.draw.specs.Run.{Run, finished, short as ended, drew, follow, run}
 use Rattle.draw.specs.declared.Drawn.{Drawn}
 use Rattle.draw.specs.declared.Drawn.the-variants.{Value, Short}
 use Rattle.round.specs.Choice.{Selection, isHeld, outcome}
 use Rattle.round.specs.declared.Held.{Held}
-use Rattle.sheet.specs.Sheet.{mostRounds, kind, liftKind, Lift, liftOf, lifts}
-use Rattle.sheet.specs.Rounds.{those, named, inUse, ofRound}
+use Rattle.sheet.specs.Sheet.{mostRounds, kind, liftKind, Lift, lifts}
+use Rattle.sheet.specs.Rounds.{named, inUse, ofRound}
 use Rattle.sheet.specs.declared.Side.the-variants.{New}
+use Rattle.sheet.proofs.Those.{those-in, those-few}
 use Rattle.selection.specs.Choice.{heldIn, planOf, nobody, liftAt, Choice, Panel, chosen, short, preceded, andThen, panelFrom, panel, replied, reply}
 use Rattle.selection.proofs.Replies.{ran}
-
--- ---- lists whose elements have a property
-
-unfoldable pub Each : {A : Type 0} → (A → Type 0) → List A → Type 0
-Each P [] = Unit {0}
-Each P (x ∷ xs) = P x × Each P xs
-
-each-at : {A : Type 0} (P : A → Type 0) (default : A) → P default → (xs : List A) → Each P xs → (i : ℕ) → P (getD xs i default)
-unfolding Each
-each-at P default d [] e i = d
-each-at P default d (x ∷ xs) e zero = e .0
-each-at P default d (x ∷ xs) e (suc i) = each-at P default d xs (e .1) i
-
--- ---- rounds
-
-those-le : (p : ℕ → Bool) (a n b : ℕ) → a + n ≤ b + 1 → Each (λ r. r ≤ b) (those p a n)
-unfolding those Each
-those-le p a zero b h = tt
-those-le p a (suc n) b h = go (p a) (those-le p (suc a) n b (omega arith))
-  where
-    go : (t : Bool) → Each (λ r. r ≤ b) (those p (suc a) n) → Each (λ r. r ≤ b) (cond t (a ∷ those p (suc a) n) (those p (suc a) n))
-    go true e = (omega arith, e)
-    go false e = e
-
-those-few : (p : ℕ → Bool) (a n : ℕ) → length (those p a n) ≤ n
-unfolding those
-those-few p a zero = omega arith
-those-few p a (suc n) = go (p a) (those-few p (suc a) n)
-  where
-    go : (t : Bool) → length (those p (suc a) n) ≤ n → length (cond t (a ∷ those p (suc a) n) (those p (suc a) n)) ≤ suc n
-    go true e = omega arith
-    go false e = omega arith
 
 -- ---- lift numbers
 
@@ -58,27 +28,19 @@ those-few p a (suc n) = go (p a) (those-few p (suc a) n)
 abbrev Small : Lift → Type 0
 Small l = l .number < 2 ^ 28
 
-small-lifts : (ws : List ℕ) → Each Small (lifts ws)
-unfolding lifts Each
-small-lifts [] = tt
-small-lifts (w ∷ ws) = go (eqb (kind w) liftKind) (small-lifts ws)
-  where
-    go : (t : Bool) → Each Small (lifts ws) → Each Small (cond t (liftOf (w ∷ ws) ∷ lifts ws) (lifts ws))
-    go true e = (omega arith, e)
-    go false e = e
+small-lifts : (ws : List ℕ) → All Small (lifts ws)
+unfolding lifts
+small-lifts [] = all-none Small
+small-lifts (w ∷ ws) = all-keep Small (eqb (kind w) liftKind) (λ e. omega arith) (small-lifts ws)
 
-small-round : (r : ℕ) (ls : List Lift) → Each Small ls → Each Small (ofRound r ls)
-unfolding ofRound Each
-small-round r [] e = tt
-small-round r (l ∷ ls) e = go (eqb (l .new .round) r) (small-round r ls (e .1))
-  where
-    go : (t : Bool) → Each Small (ofRound r ls) → Each Small (cond t (l ∷ ofRound r ls) (ofRound r ls))
-    go true s = (e .0, s)
-    go false s = s
+small-round : (r : ℕ) (ls : List Lift) → All Small ls → All Small (ofRound r ls)
+unfolding ofRound
+small-round r [] e = all-none Small
+small-round r (l ∷ ls) e = all-keep Small (eqb (l .new .round) r) (λ _. e l (List·Memᴰ·head refl)) (small-round r ls (λ k m. e k (List·Memᴰ·tail m)))
 
-small-at : (r : ℕ) (ls : List Lift) → Each Small ls → (i : ℕ) → Small (liftAt r ls i)
+small-at : (r : ℕ) (ls : List Lift) → All Small ls → (i : ℕ) → Small (liftAt r ls i)
 unfolding liftAt
-small-at r ls e i = each-at Small nobody (omega arith) (ofRound r ls) (small-round r ls e) i
+small-at r ls e i = all-getD Small {d = nobody} (omega arith) (ofRound r ls) (small-round r ls e) i
 
 -- ---- outcomes
 
@@ -130,18 +92,18 @@ pub record Printable (c : Choice) : Type 0 where
   pub outcome : c .outcome ≤ 3
 
 record Bounded (ws rs : List ℕ) (cs : List Choice) (next : ℕ) : Type 0 where
-  printable : Each Printable cs
+  printable : All Printable cs
   many : length cs ≡ length rs
   inside : next ≤ length ws
 
-bounded : (ls : List Lift) (ws : List ℕ) (from : ℕ) (rs : List ℕ) {cs : List Choice} {next : ℕ} → Each Small ls → Each (λ r. r ≤ mostRounds) rs
+bounded : (ls : List Lift) (ws : List ℕ) (from : ℕ) (rs : List ℕ) {cs : List Choice} {next : ℕ} → All Small ls → All (λ r. r ≤ mostRounds) rs
     → from ≤ length ws → panelFrom ls ws from rs ≡ chosen cs next → Bounded ws rs cs next
-unfolding panelFrom Each
+unfolding panelFrom
 bounded ls ws from [] {cs} {next} small le h e =
     let x : cs ≡ [] = cc in let y : from ≡ next = cc in
-    record { printable = rw x tt; many = rw x; inside = omega arith }
+    record { printable = rw x (all-none Printable); many = rw x; inside = omega arith }
 bounded ls ws from (r ∷ rs) {cs} {next} small le h e =
-    go (run largest ws from (planOf r ls)) refl e (λ n ds l. bounded ls ws n rs {cs = ds} small (le .1) l)
+    go (run largest ws from (planOf r ls)) refl e (λ n ds l. bounded ls ws n rs {cs = ds} small (λ k m. le k (List·Memᴰ·tail m)) l)
   where
     made : List ℕ → Selection → Choice
     made vs s = record { round = r; number = liftAt r ls (s .place) .number; outcome = outcome (heldIn r ls) s; values = vs }
@@ -153,7 +115,7 @@ bounded ls ws from (r ∷ rs) {cs} {next} small le h e =
         let y : n ≡ next = cc in
         let b = rest ds (ap (chosen ds) y) in
         rw x (record {
-          printable = (record { round = le .0; number = small-at r ls small (s .place); outcome = outcome-le (heldIn r ls) s }, b .printable);
+          printable = all-more Printable (record { round = le r (List·Memᴰ·head refl); number = small-at r ls small (s .place); outcome = outcome-le (heldIn r ls) s }) (b .printable);
           many = ap suc (b .many);
           inside = b .inside;
         })
@@ -173,7 +135,7 @@ pub record Made (sheet ws : List ℕ) (start n k : ℕ) : Type 0 where
   pub is : panel (lifts sheet) ws start ≡ chosen choices next
   pub count : n ≡ length choices
   pub read : k ≡ next - start
-  pub printable : Each Printable choices
+  pub printable : All Printable choices
   pub few : n ≤ mostRounds
   pub inside : next ≤ length ws
 
@@ -181,7 +143,7 @@ pub made : (sheet ws : List ℕ) (start room : ℕ) {n k : ℕ} → reply sheet 
 made sheet ws start room e =
     let used : ℕ → Bool = λ r. ltb 0 (named New r (lifts sheet)) in
     let x = ran sheet ws start room e in
-    let b = bounded (lifts sheet) ws start (inUse New (lifts sheet)) (small-lifts sheet) (those-le used 1 mostRounds mostRounds (omega arith)) (x .started) (x .is) in
+    let b = bounded (lifts sheet) ws start (inUse New (lifts sheet)) (small-lifts sheet) (λ r m. omega (arith, those-in used 1 mostRounds r m .2)) (x .started) (x .is) in
     record {
       choices = x .choices;
       next = x .next;

@@ -1,15 +1,16 @@
 -- The lines of output words: what is left of them, pair by pair; and those of the pairs of choices. Assumes nothing.
 use Prim.Native.Nat.{ℕ, suc, _+_, _*_, _/_, _^_, _≤_, _<_}
 use mathlib.Core.Path.{_≡_, refl, ap, _∙_}
-use mathlib.Core.List.{List, [], _∷_, _++_}
+use mathlib.Core.List.{List, [], _∷_, _++_, List·Memᴰ·head, List·Memᴰ·tail}
 use native.Mathlib.Omega.{arith}
 use lib.ListN.{length, getD, take, drop, length-drop}
 use lib.Seq.{drop-cons}
+use Rattle.laws.proofs.Lists.{All}
 use Rattle.sheet.specs.Sheet.{payload, placeOf, word}
 use Rattle.sheet.proofs.Trips.{payload-word}
 use Rattle.selection.specs.Choice.{Choice, written}
 use Rattle.report.specs.Report.{line, lines, pairLines}
-use Rattle.report.proofs.Choices.{Each, Printable}
+use Rattle.report.proofs.Choices.{Printable}
 
 -- what is left from pair k on is its line and what is left behind it
 pub left-pair : (ws : List ℕ) (k : ℕ) {round number outcome : ℕ} → k < length ws / 2 → round ≡ placeOf (getD ws (2 * k) 0) .round
@@ -52,9 +53,10 @@ module _ (c : Choice) (p : Printable c) where
   outcome-told = rw first-payload (omega (arith, p .outcome))
 
 -- the lines of the pairs that are written are the lines of the choices
-pub pair-lines : (cs : List Choice) (out : List ℕ) → Each Printable cs → pairLines (take (2 * length cs) (written cs out)) ≡ lines cs
-unfolding pairLines lines written Each
+pub pair-lines : (cs : List Choice) (out : List ℕ) → All Printable cs → pairLines (take (2 * length cs) (written cs out)) ≡ lines cs
+unfolding pairLines lines written
 pair-lines [] out e = refl
 pair-lines (c ∷ cs) out e =
     let n : 2 * suc (length cs) ≡ suc (suc (2 * length cs)) = omega arith in
-    rw (n, round-told c (e .0), outcome-told c (e .0), payload-word 6 (c .number) (e .0 .number), pair-lines cs (drop 2 out) (e .1))
+    let p : Printable c = e c (List·Memᴰ·head refl) in
+    rw (n, round-told c p, outcome-told c p, payload-word 6 (c .number) (p .number), pair-lines cs (drop 2 out) (λ k m. e k (List·Memᴰ·tail m)))

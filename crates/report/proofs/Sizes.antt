@@ -1,15 +1,16 @@
 -- How long the lines are: by their parts, and in bytes for the numbers that can stand there. Assumes nothing.
 use Prim.Native.Nat.{ℕ, _+_, _*_, _^_, _≤_, _<_}
-use mathlib.Core.Path.{_≡_, ap, _∙_}
-use mathlib.Core.List.{List, [], _∷_, _++_}
+use mathlib.Core.Path.{_≡_, refl, ap, _∙_}
+use mathlib.Core.List.{List, [], _∷_, _++_, List·Memᴰ·head, List·Memᴰ·tail}
 use native.Mathlib.Omega.{arith}
 use lib.ListN.{length, length-append}
+use Rattle.laws.proofs.Lists.{All}
 use Rattle.sheet.specs.Sheet.{mostRounds}
 use Rattle.sheet.specs.Reading.{numbered}
 use Rattle.selection.specs.Choice.{Choice}
 use Rattle.report.specs.Report.{mostWords, decimal, field, space, LF, line, lines, wordsLabel, wordsLine, refusedLabel, refusedLine, textRoom}
 use Rattle.report.proofs.Decimals.{field-le}
-use Rattle.report.proofs.Choices.{Each, Printable}
+use Rattle.report.proofs.Choices.{Printable}
 
 -- ---- by parts
 
@@ -47,11 +48,11 @@ line-le c p =
       field-le 0 (c .outcome) LF (omega (arith, p .outcome)),
     )
 
-lines-le : (cs : List Choice) → Each Printable cs → length (lines cs) ≤ 16 * length cs
-unfolding lines Each
+lines-le : (cs : List Choice) → All Printable cs → length (lines cs) ≤ 16 * length cs
+unfolding lines
 lines-le [] e = omega arith
-lines-le (c ∷ cs) e = rw length-append (omega (arith, line-le c (e .0), lines-le cs (e .1)))
+lines-le (c ∷ cs) e = rw length-append (omega (arith, line-le c (e c (List·Memᴰ·head refl)), lines-le cs (λ k m. e k (List·Memᴰ·tail m))))
 
-pub chosen-le : (cs : List Choice) (k : ℕ) → Each Printable cs → length cs ≤ mostRounds → k ≤ mostWords → length (lines cs ++ wordsLine k) ≤ textRoom
+pub chosen-le : (cs : List Choice) (k : ℕ) → All Printable cs → length cs ≤ mostRounds → k ≤ mostWords → length (lines cs ++ wordsLine k) ≤ textRoom
 chosen-le cs k e n h =
     rw length-append (omega (arith, lines-le cs e, length-words k, field-le 3 k LF (omega arith)))

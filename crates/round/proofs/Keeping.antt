@@ -1,16 +1,17 @@
 -- Keeping: each lift keeps the smaller of its weights, and a coupling keeps no more than a row's and a column's sum.
 use Prim.Native.Nat.{ℕ, _+_, _*_, _-_, _≤_, _<_, min}
-use mathlib.Core.Path.{_≡_, refl, sym, ap, _∙_, fun-ext}
+use mathlib.Core.Path.{_≡_, refl, ap, _∙_, fun-ext}
 use mathlib.Core.Bool.{Bool, true, false}
 use mathlib.Core.List.{List, map}
 use native.Mathlib.Nat.{mul-pos, mul-le-mul-right, min-eq-left, add-zero}
 use native.Mathlib.Omega.{arith}
 use lib.ListN.{length}
 use lib.Dec.{leb, eqb}
-use borrow.Author.Tests.{leb-true, leb-false, eqb-true, eqb-false, eq-eqb, ne-eqb}
+use borrow.Author.Tests.{leb-true, leb-false}
 use Rattle.laws.specs.Sum.{total}
 use Rattle.laws.specs.Fraction.{_//_, _⊗_, _≈_, sum}
 use Rattle.laws.specs.Plan.{after, paths, weight, mass}
+use Rattle.laws.proofs.Tests.{eqb-comm}
 use Rattle.laws.proofs.Sums.{over-ext, Σ-mono, Σ-mul, Σ-map, Σ-term}
 use Rattle.laws.proofs.Fractions.{≈-trans, ≈-num, ⊕-same, ⊗-≈, sum-≈}
 use Rattle.laws.proofs.Masses.{weighed}
@@ -48,13 +49,6 @@ module _ (ws : List Weight) (times : ℕ) (grid : ℕ → ℕ → ℕ) (c : Coup
       rw (Σ-mul (length ws) (λ i. smaller (weightAt ws i)) times ∙ ap (λ t. t * times) (Σ-map smaller none ws)) at (Σ-mono (length ws) term)
 
 -- ---- what is kept
-
-eqb-comm : (a b : ℕ) → eqb a b ≡ eqb b a
-eqb-comm a b = go (eqb a b) refl
-  where
-    go : (t : Bool) → eqb a b ≡ t → eqb a b ≡ eqb b a
-    go true e = e ∙ sym (eq-eqb b a (sym (eqb-true a b e)))
-    go false e = e ∙ sym (ne-eqb b a (λ h. eqb-false a b e (sym h)))
 
 module _ (T : ℕ) (ls : List Lift) (f : Fitting (One T) ls) (whole : U 1 ls ≡ T) where
   keeps-here : (i : ℕ) → i < length ls → weight (λ s. isHeld (Single i) (s .place)) (paths (plan (One T) ls (Single i))) ≈ mass (chooses i) (keyfitz (weights (One T) ls) i)

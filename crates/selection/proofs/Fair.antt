@@ -1,9 +1,7 @@
 -- Demand 3 from the theorems of one round: the mean over all initial selections is the mean over the round's held lifts.
-use Prim.Native.Nat.{ℕ, zero, suc, _+_, _*_, _≤_, _<_}
+use Prim.Native.Nat.{ℕ, zero, suc, _*_, _≤_, _<_}
 use mathlib.Core.Path.{_≡_, refl, ap, _∙_}
-use mathlib.Core.Bool.{Bool, true, false, cond}
-use mathlib.Core.Logic.{⊎-elim}
-use mathlib.Core.List.{List, [], _∷_, map, List·Memᴰ, List·Memᴰ·not-nil, List·Memᴰ·cases-cons}
+use mathlib.Core.List.{List, [], _∷_, map}
 use native.Mathlib.Nat.{mul-le-mul-right, le-of-mul-le-mul-right}
 use native.Mathlib.Omega.{arith}
 use lib.Dec.{ltb}
@@ -22,9 +20,10 @@ use Rattle.round.specs.declared.Donors.the-variants.{One}
 use Rattle.round.proofs.Shares.{shares as round-shares}
 use Rattle.round.proofs.Keeping.{keeps as round-keeps}
 use Rattle.sheet.specs.Sheet.{mostRounds, Lift, lifts, sheetOf}
-use Rattle.sheet.specs.Rounds.{those, named, inUse, sumOf, donors, ofRound}
+use Rattle.sheet.specs.Rounds.{named, inUse, sumOf, donors, ofRound}
 use Rattle.sheet.specs.Law.{Fitting}
 use Rattle.sheet.specs.declared.Side.the-variants.{Old, New}
+use Rattle.sheet.proofs.Those.{those-in}
 use Rattle.selection.specs.Choice.{donorNumber, donorsOf, liftsOf, heldIn, planOf, nobody, liftAt}
 use Rattle.selection.specs.Initial.{marked}
 use Rattle.selection.specs.Fair.{share, kept, FairTheorem}
@@ -34,18 +33,6 @@ use Rattle.selection.proofs.Weighing.{selections-ext, weight-ext, weigh
 use Rattle.selection.proofs.Following.{carries}
 use Rattle.selection.proofs.Selections.{transfer, whole}
 use Rattle.selection.proofs.MarkedFits.{back, marked-fits, flags}
-
--- a round in use passes the test, within the bounds
-mem-those : (p : ℕ → Bool) (a n r : ℕ) → List·Memᴰ r (those p a n) → (p r ≡ true) × (a ≤ r) × (r < a + n)
-unfolding those
-mem-those p a zero r d = absurd (List·Memᴰ·not-nil d)
-mem-those p a (suc n) r d = go (p a) refl d (mem-those p (suc a) n r)
-  where
-    go : (t : Bool) → p a ≡ t → List·Memᴰ r (cond t (a ∷ those p (suc a) n) (those p (suc a) n))
-        → (List·Memᴰ r (those p (suc a) n) → (p r ≡ true) × (suc a ≤ r) × (r < suc a + n)) → (p r ≡ true) × (a ≤ r) × (r < a + suc n)
-    go true h k rest =
-        ⊎-elim (λ e. (ap p e ∙ h, omega arith, omega arith)) (λ e. let q = rest e in (q .0, omega (arith, q .1), omega (arith, q .2))) (List·Memᴰ·cases-cons k)
-    go false h k rest = let q = rest k in (q .0, omega (arith, q .1), omega (arith, q .2))
 
 -- the plan of a round of the lifts so marked
 plan-marked : (m : List Lift) (r : ℕ) (ls : List Lift) → planOf r (marked m ls) ≡ plan (donorsOf r ls) (liftsOf r ls) (heldIn r (marked m ls))
@@ -121,7 +108,7 @@ pub fair : FairTheorem
 fair ws f =
     record {
       rounds = λ r d.
-          let q = mem-those (λ r. ltb 0 (named New r (lifts ws))) 1 mostRounds r d in
+          let q = those-in (λ r. ltb 0 (named New r (lifts ws))) 1 mostRounds r d in
           let some = ltb-true 0 (named New r (lifts ws)) (q .0) in
           let high : r ≤ mostRounds = omega (arith, q .2) in
           record {

@@ -14,9 +14,9 @@ use Rattle.round.specs.Choice.{Selection, outcome}
 use Rattle.sheet.specs.Sheet.{Lift, lifts}
 use Rattle.sheet.specs.Rounds.{inUse}
 use Rattle.sheet.specs.declared.Side.the-variants.{New}
-use Rattle.selection.specs.Choice.{heldIn, planOf, liftAt, Choice, Panel, chosen, short, preceded, andThen, panelFrom, panel, replied, reply, pair, pairOf, written, output}
+use Rattle.selection.specs.Choice.{heldIn, planOf, liftAt, Choice, Panel, chosen, short, preceded, andThen, panelFrom, panel, replied, reply, pair, written, output}
 use Rattle.selection.specs.Fair.{draws}
-use Rattle.selection.proofs.Replies.{Ran, ran}
+use Rattle.selection.proofs.Replies.{ran}
 
 -- what a finished run of round r chooses
 abbrev made : ℕ → List Lift → List ℕ → Selection → Choice

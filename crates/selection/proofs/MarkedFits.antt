@@ -3,131 +3,35 @@
 use Prim.Native.Nat.{ℕ, zero, suc, _+_, _*_, _≤_, _<_}
 use mathlib.Core.Path.{_≡_, refl, sym, ap, ap₂, _∙_}
 use mathlib.Core.Bool.{Bool, true, false, cond, _&&_, _||_, not, or-false, or-true, and-false, and-or-distrib-left, and-eq-true-iff, true≢false, false≢true}
-use mathlib.Core.List.{List, [], _∷_, _++_, map, List·Memᴰ, List·Memᴰ·head, List·Memᴰ·tail, List·Memᴰ·not-nil, List·Memᴰ·cases-cons, List·Memᴰ·append-cases, List·Memᴰ·eq-of-singleton}
+use mathlib.Core.List.{List, [], _∷_, _++_, map, List·Memᴰ, List·Memᴰ·head, List·Memᴰ·tail, List·Memᴰ·not-nil, List·Memᴰ·cases-cons, List·Memᴰ·eq-of-singleton}
 use mathlib.Core.Logic.{_⊎_, inl, inr}
 use native.Mathlib.Nat.{le-trans}
 use native.Mathlib.Omega.{arith}
 use lib.Dec.{eqb, ltb, leb, eqb·suc-zero, eqb·zero-suc, eqb·suc-suc}
 use lib.ListN.{length, getD}
-use borrow.Author.Tests.{eqb-true, eqb-false, leb-true, leb-false, eq-eqb, ne-eqb, ltb-true, ltb-false, lt-ltb, le-ltb}
+use borrow.Author.Tests.{eqb-true, leb-true, leb-false, eq-eqb, ne-eqb, ltb-true, ltb-false, lt-ltb, le-ltb}
 use Rattle.laws.specs.Sum.{over, Σ, total, totalBy, indicator}
-use Rattle.laws.proofs.Sums.{Σ-totalBy, Σ-mono, Σ-const}
+use Rattle.laws.proofs.Lists.{All, all-none, all-more, all-keep, all-append, all-map, all-getD}
+use Rattle.laws.proofs.Sums.{Σ-totalBy, Σ-mono, Σ-const, totalBy-none, totalBy-sum, totalBy-le}
 use Rattle.round.specs.Choice.{isHeld}
 use Rattle.round.specs.Share.{Initial, here, elsewhere, heldOf}
 use Rattle.sheet.specs.Sheet.{mostLifts, mostRounds, longest, Lift, lifts, written, sheetOf, word, heldKind, endKind}
-use Rattle.sheet.specs.Rounds.{those, named, inUse, comes, sends, donors, ofRound, heldIn as heldCount}
+use Rattle.sheet.specs.Rounds.{named, inUse, comes, sends, donors, ofRound, heldIn as heldCount}
 use Rattle.sheet.specs.Reading.{mislong}
 use Rattle.sheet.specs.Refusal.{fits, unheld, verdict}
 use Rattle.sheet.specs.Law.{Proper, Listed, Listable, Fitting}
 use Rattle.sheet.specs.declared.Side.the-variants.{Old, New}
+use Rattle.sheet.proofs.Those.{those-has, those-once}
 use Rattle.sheet.proofs.Trips.{read-theorem, written-theorem}
 use Rattle.sheet.proofs.Verdicts.{decided}
 use Rattle.selection.specs.Choice.{further, heldAt, heldAmong, heldIn, nobody, liftAt}
 use Rattle.selection.specs.Initial.{eligible, each, selectionsFrom, selections, names, marked}
 use Rattle.selection.proofs.Marks.{named-marked, sumOf-marked, inUse-marked, donors-marked, length-marked}
 
--- ---- what holds of every element
-
-abbrev All : {A : Type 0} → (A → Type 0) → List A → Type 0
-All {A} P xs = (x : A) → List·Memᴰ x xs → P x
-
-module _ {A : Type 0} (P : A → Type 0) where
-  all-none : All P []
-  all-none x m = absurd (List·Memᴰ·not-nil m)
-
-  all-more : {x : A} {xs : List A} → P x → All P xs → All P (x ∷ xs)
-  all-more {x} {xs} p h y m = go (List·Memᴰ·cases-cons m)
-    where
-      go : (y ≡ x) ⊎ List·Memᴰ y xs → P y
-      go (inl e) = rw e p
-      go (inr i) = h y i
-
-  all-keep : (t : Bool) {x : A} {xs : List A} → (t ≡ true → P x) → All P xs → All P (cond t (x ∷ xs) xs)
-  all-keep true p h = all-more (p refl) h
-  all-keep false p h = h
-
-  all-append : (xs : List A) {ys : List A} → All P xs → All P ys → All P (xs ++ ys)
-  all-append xs {ys} h k x m = go (List·Memᴰ·append-cases xs m)
-    where
-      go : List·Memᴰ x xs ⊎ List·Memᴰ x ys → P x
-      go (inl i) = h x i
-      go (inr i) = k x i
-
-  all-map : {B : Type 0} (f : B → A) (xs : List B) → All (λ x. P (f x)) xs → All P (map f xs)
-  all-map f [] h = all-none
-  all-map f (x ∷ xs) h = all-more (h x (List·Memᴰ·head refl)) (all-map f xs (λ y m. h y (List·Memᴰ·tail m)))
-
-  -- and of the default holds at every place
-  all-getD : {d : A} → P d → (xs : List A) → All P xs → (i : ℕ) → P (getD xs i d)
-  all-getD z [] h i = z
-  all-getD z (x ∷ xs) h zero = h x (List·Memᴰ·head refl)
-  all-getD z (x ∷ xs) h (suc i) = all-getD z xs (λ y m. h y (List·Memᴰ·tail m)) i
-
--- ---- sums by key
+-- ---- lifts by their old rounds
 
 abbrev oldRound : Lift → ℕ
 oldRound l = l .old .round
-
-module _ {A : Type 0} (key : A → ℕ) (k : ℕ) where
-  -- no value with the key, no sum
-  totalBy-none : (v : A → ℕ) (xs : List A) → All (λ x. key x ≡ k → v x ≡ 0) xs → totalBy key v k xs ≡ 0
-  unfolding totalBy
-  totalBy-none v [] h = refl
-  totalBy-none v (x ∷ xs) h = go (eqb (key x) k) refl (totalBy-none v xs (λ y m. h y (List·Memᴰ·tail m)))
-    where
-      go : (t : Bool) → eqb (key x) k ≡ t → totalBy key v k xs ≡ 0 → cond t (v x) 0 + totalBy key v k xs ≡ 0
-      go true e r = omega (arith, h x (List·Memᴰ·head refl) (eqb-true (key x) k e))
-      go false e r = omega arith
-
-  -- values that are at most two others together
-  totalBy-sum : (u v w : A → ℕ) → ((x : A) → u x ≤ v x + w x) → (xs : List A) → totalBy key u k xs ≤ totalBy key v k xs + totalBy key w k xs
-  unfolding totalBy
-  totalBy-sum u v w h [] = omega arith
-  totalBy-sum u v w h (x ∷ xs) = go (eqb (key x) k) (totalBy-sum u v w h xs)
-    where
-      go : (t : Bool) → totalBy key u k xs ≤ totalBy key v k xs + totalBy key w k xs
-          → cond t (u x) 0 + totalBy key u k xs ≤ (cond t (v x) 0 + totalBy key v k xs) + (cond t (w x) 0 + totalBy key w k xs)
-      go true r = omega (arith, h x)
-      go false r = omega arith
-
-  totalBy-le : (u v : A → ℕ) → ((x : A) → u x ≤ v x) → (xs : List A) → totalBy key u k xs ≤ totalBy key v k xs
-  totalBy-le u v h xs = omega (arith, totalBy-sum u v (λ _. 0) (λ x. omega (arith, h x)) xs, totalBy-none (λ _. 0) xs (λ x m e. refl))
-
--- ---- the numbers that pass a test
-
--- those that pass are among them
-those-has : (p : ℕ → Bool) (a n t : ℕ) → p t ≡ true → a ≤ t → t < a + n → List·Memᴰ t (those p a n)
-unfolding those
-those-has p a zero t e l h = absurd (omega arith)
-those-has p a (suc n) t e l h = go (eqb a t) refl (p a) refl (λ m. those-has p (suc a) n t e m (omega arith))
-  where
-    go : (y : Bool) → eqb a t ≡ y → (x : Bool) → p a ≡ x → (suc a ≤ t → List·Memᴰ t (those p (suc a) n))
-        → List·Memᴰ t (cond x (a ∷ those p (suc a) n) (those p (suc a) n))
-    go true f true q r = List·Memᴰ·head (sym (eqb-true a t f))
-    go true f false q r = absurd (false≢true (sym q ∙ ap p (eqb-true a t f) ∙ e))
-    go false f true q r = List·Memᴰ·tail (r (omega (arith, eqb-false a t f)))
-    go false f false q r = r (omega (arith, eqb-false a t f))
-
--- none is below the first
-those-above : (p : ℕ → Bool) (a n : ℕ) → All (λ t. a ≤ t) (those p a n)
-unfolding those
-those-above p a zero = all-none (λ t. a ≤ t)
-those-above p a (suc n) = all-keep (λ t. a ≤ t) (p a) (λ e. omega arith) (λ t m. omega (arith, those-above p (suc a) n t m))
-
--- none is there twice
-those-once : (p : ℕ → Bool) (a n t : ℕ) → totalBy (λ s. s) (λ _. 1) t (those p a n) ≤ 1
-unfolding those totalBy
-those-once p a zero t = omega arith
-those-once p a (suc n) t = go (p a) (eqb a t) refl (those-once p (suc a) n t)
-  where
-    rest : List ℕ
-    rest = those p (suc a) n
-
-    go : (x y : Bool) → eqb a t ≡ y → totalBy (λ s. s) (λ _. 1) t rest ≤ 1 → totalBy (λ s. s) (λ _. 1) t (cond x (a ∷ rest) rest) ≤ 1
-    go true true e r =
-        rw e (omega (arith, totalBy-none (λ s. s) t (λ _. 1) rest (λ s m q. absurd (omega (arith, those-above p (suc a) n s m, eqb-true a t e)))))
-    go true false e r = rw e (omega arith)
-    go false y e r = r
 
 -- ---- lifts that a sheet can tell
 

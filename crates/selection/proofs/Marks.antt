@@ -11,7 +11,7 @@ use Rattle.sheet.specs.Sheet.{mostRounds, Lift}
 use Rattle.sheet.specs.Rounds.{placeAt, named, inUse, sumOf, comes, sends, donors, ofRound}
 use Rattle.sheet.specs.declared.Side.{Side}
 use Rattle.sheet.specs.declared.Side.the-variants.{Old, New}
-use Rattle.sheet.proofs.Searches.{those-ext}
+use Rattle.sheet.proofs.Those.{those-ext}
 use Rattle.selection.specs.Choice.{donorNumber, withSums, donorsOf, liftsOf}
 use Rattle.selection.specs.Initial.{holding, marked}
 

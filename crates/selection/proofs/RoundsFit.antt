@@ -1,47 +1,24 @@
 -- What a fitting sheet gives of each of its new rounds: the sums of the round and of its donors, and where held lifts stand.
-use Prim.Native.Nat.{ℕ, zero, suc, _+_, _-_, _≤_, _<_}
+use Prim.Native.Nat.{ℕ, suc, _+_, _-_, _≤_, _<_}
 use mathlib.Core.Path.{_≡_, refl, sym, ap, ap₂, _∙_}
 use mathlib.Core.Bool.{Bool, true, false, cond, _&&_, _||_, false≢true, true≢false}
-use mathlib.Core.List.{List, [], _∷_, map, nil≢cons}
+use mathlib.Core.List.{List, [], _∷_, map}
 use native.Mathlib.Omega.{arith}
 use lib.Dec.{eqb, ltb}
 use lib.ListN.{length, length-map}
-use borrow.Author.Tests.{eq-eqb, ne-eqb, eqb-true, eqb-false, lt-ltb, ltb-true, ltb-false, leb-false}
+use borrow.Author.Tests.{eqb-true, eqb-false, lt-ltb, ltb-true, ltb-false, leb-false}
 use Rattle.laws.specs.Sum.{total, totalBy}
+use Rattle.laws.proofs.Tests.{eqb-comm}
 use Rattle.round.specs.Round.{Lift as RoundLift, S, U, Donate, Fitting as RoundFitting}
 use Rattle.round.specs.Share.{Initial, here, elsewhere, heldOf}
 use Rattle.round.specs.declared.Donors.the-variants.{One, Two}
 use Rattle.round.specs.Slices.{lift, Stands, Bounded, SumsBounded}
 use Rattle.sheet.specs.Sheet.{mostRounds, largestSum, Lift, lifts}
-use Rattle.sheet.specs.Rounds.{those, named, sumOf, sends, donors, ofRound}
+use Rattle.sheet.specs.Rounds.{named, sumOf, sends, donors, ofRound}
 use Rattle.sheet.specs.Law.{Fitting}
 use Rattle.sheet.specs.declared.Side.the-variants.{Old, New}
+use Rattle.sheet.proofs.Those.{those-head}
 use Rattle.selection.specs.Choice.{donorNumber, withSums, donorsOf, liftsOf, further, heldAt, heldAmong, heldIn}
-
--- ---- the first of the numbers that pass a test
-
-pub record Head (p : ℕ → Bool) (a n d : ℕ) (ds : List ℕ) : Type 0 where
-  pub from : a ≤ d
-  pub upto : d < a + n
-  pub passes : p d ≡ true
-  pub rest : ds ≡ those p (suc d) (a + n - suc d)
-
-pub those-head : (p : ℕ → Bool) (a n d : ℕ) (ds : List ℕ) → those p a n ≡ d ∷ ds → Head p a n d ds
-unfolding those
-those-head p a zero d ds e = absurd (nil≢cons e)
-those-head p a (suc n) d ds e = go (p a) refl e (those-head p (suc a) n d ds)
-  where
-    go : (t : Bool) → p a ≡ t → cond t (a ∷ those p (suc a) n) (those p (suc a) n) ≡ d ∷ ds
-        → (those p (suc a) n ≡ d ∷ ds → Head p (suc a) n d ds) → Head p a (suc n) d ds
-    go true h q r =
-        let x : a ≡ d = cc in
-        let y : those p (suc a) n ≡ ds = cc in
-        let k : a + suc n - suc d ≡ n = omega arith in
-        record { from = omega arith; upto = omega arith; passes = ap p (sym x) ∙ h; rest = sym y ∙ rw (k, x) refl }
-    go false h q r =
-        let f = r q in
-        let k : suc a + n ≡ a + suc n = omega arith in
-        record { from = omega (arith, f .from); upto = omega (arith, f .upto); passes = f .passes; rest = f .rest ∙ ap (λ x. those p (suc d) (x - suc d)) k }
 
 -- ---- the sums of a round
 
@@ -101,21 +78,14 @@ sent-some d r (l ∷ ls) e = go (eqb (l .old .round) d) (eqb (l .new .round) r) 
 
 -- ---- donors
 
-eqb-sym : (a b : ℕ) → eqb a b ≡ eqb b a
-eqb-sym a b = go (eqb a b) refl
-  where
-    go : (t : Bool) → eqb a b ≡ t → t ≡ eqb b a
-    go true e = sym (eq-eqb b a (sym (eqb-true a b e)))
-    go false e = sym (ne-eqb b a (λ q. eqb-false a b e (sym q)))
-
 -- the first donor is numbered 1, and it alone
-number-first : (d : ℕ) (ds : List ℕ) (t : ℕ) → eqb (donorNumber (d ∷ ds) t) 1 ≡ eqb t d
-number-first d [] t = go (eqb d t) ∙ eqb-sym d t
+pub number-first : (d : ℕ) (ds : List ℕ) (t : ℕ) → eqb (donorNumber (d ∷ ds) t) 1 ≡ eqb t d
+number-first d [] t = go (eqb d t) ∙ eqb-comm d t
   where
     go : (x : Bool) → eqb (cond x 1 0) 1 ≡ x
     go true = refl
     go false = refl
-number-first d (e ∷ ds) t = go (eqb d t) (eqb e t) ∙ eqb-sym d t
+number-first d (e ∷ ds) t = go (eqb d t) (eqb e t) ∙ eqb-comm d t
   where
     go : (x y : Bool) → eqb (cond x 1 (cond y 2 0)) 1 ≡ x
     go true y = refl
@@ -123,8 +93,8 @@ number-first d (e ∷ ds) t = go (eqb d t) (eqb e t) ∙ eqb-sym d t
     go false false = refl
 
 -- and the second 2
-number-second : (d e : ℕ) (ds : List ℕ) → d < e → (t : ℕ) → eqb (donorNumber (d ∷ e ∷ ds) t) 2 ≡ eqb t e
-number-second d e ds h t = go (eqb d t) (eqb e t) refl refl ∙ eqb-sym e t
+pub number-second : (d e : ℕ) (ds : List ℕ) → d < e → (t : ℕ) → eqb (donorNumber (d ∷ e ∷ ds) t) 2 ≡ eqb t e
+number-second d e ds h t = go (eqb d t) (eqb e t) refl refl ∙ eqb-comm e t
   where
     go : (x y : Bool) → eqb d t ≡ x → eqb e t ≡ y → eqb (cond x 1 (cond y 2 0)) 2 ≡ y
     go true true p q = absurd (omega (arith, eqb-true d t p, eqb-true e t q))

@@ -1,12 +1,12 @@
 -- Of all initial selections a new round sees only the held lifts of its donors: the mean over all is that over these.
-use Prim.Native.Nat.{ℕ, zero, suc, _+_, _≤_, _<_}
+use Prim.Native.Nat.{ℕ, _+_, _≤_, _<_}
 use mathlib.Core.Path.{_≡_, refl, sym, ap, _∙_}
 use mathlib.Core.Bool.{Bool, true, false, cond, _&&_, _||_, true≢false}
 use mathlib.Core.List.{List, [], _∷_, _++_}
 use native.Mathlib.Omega.{arith}
 use lib.Dec.{eqb, ltb, leb}
 use lib.ListN.{length}
-use borrow.Author.Tests.{eqb-true, eqb-false, eq-eqb, ne-eqb, leb-false, lt-ltb, not-false}
+use borrow.Author.Tests.{eqb-true, leb-false, lt-ltb, not-false}
 use Rattle.laws.specs.Sum.{totalBy, indicator}
 use Rattle.laws.specs.Fraction.{Fraction, _//_, _≈_}
 use Rattle.laws.proofs.Fractions.{≈-refl, ≈-trans}
@@ -15,14 +15,15 @@ use Rattle.round.specs.declared.Held.{Held}
 use Rattle.round.specs.declared.Held.the-variants.{Neither}
 use Rattle.round.proofs.Initials.{initial-den}
 use Rattle.sheet.specs.Sheet.{mostRounds, Lift, lifts}
-use Rattle.sheet.specs.Rounds.{those, named, sumOf, heldIn as heldCount, sends, donors, ofRound}
+use Rattle.sheet.specs.Rounds.{named, sumOf, heldIn as heldCount, sends, donors, ofRound}
 use Rattle.sheet.specs.Law.{Listed, Fitting}
 use Rattle.sheet.specs.declared.Side.the-variants.{Old}
-use Rattle.sheet.proofs.Searches.{those-none}
+use Rattle.sheet.proofs.Those.{those-none, Rising, those-rise}
 use Rattle.sheet.proofs.Trips.{read-theorem}
 use Rattle.selection.specs.Choice.{donorNumber, withSums, donorsOf, liftsOf, heldAt, heldAmong, heldIn}
 use Rattle.selection.specs.Initial.{marked, odds, overSelections}
 use Rattle.selection.proofs.Marks.{sends-marked, ofRound-marked}
+use Rattle.selection.proofs.RoundsFit.{number-first, number-second}
 use Rattle.selection.proofs.Means.{nth, mean, mean-≈, mean-den, means, Unseen, reduced}
 use Rattle.selection.proofs.Standing.{numbered-once, heldAt-drop, stands, keyed, sorted}
 
@@ -50,57 +51,7 @@ sends-named t r (l ∷ ls) h = go (eqb (l .old .round) t) h (sends-named t r ls)
     go true e k = omega arith
     go false e k = omega (arith, k e)
 
--- numbers from a up, rising, each with a property
-abbrev Rising : (ℕ → Type 0) → ℕ → List ℕ → Type 0
-Rising P a [] = Unit {0}
-Rising P a (d ∷ ds) = (a ≤ d) × P d × Rising P (suc d) ds
-
-those-rise : (P : ℕ → Type 0) (q : ℕ → Bool) (a n : ℕ) → ((t : ℕ) → a ≤ t → t < a + n → q t ≡ true → P t) → Rising P a (those q a n)
-unfolding those
-those-rise P q a zero h = tt
-those-rise P q a (suc n) h = go (q a) refl (those-rise P q (suc a) n (λ t l m. h t (omega arith) (omega arith)))
-  where
-    lower : (ds : List ℕ) → Rising P (suc a) ds → Rising P a ds
-    lower [] x = tt
-    lower (d ∷ ds) x = (omega (arith, x .0), x .1, x .2)
-
-    go : (x : Bool) → q a ≡ x → Rising P (suc a) (those q (suc a) n) → Rising P a (cond x (a ∷ those q (suc a) n) (those q (suc a) n))
-    go true e k = (omega arith, h a (omega arith) (omega arith) e, k)
-    go false e k = lower (those q (suc a) n) k
-
 -- ---- the donors alone
-
-eqb-comm : (a b : ℕ) → eqb a b ≡ eqb b a
-eqb-comm a b = go (eqb b a) refl
-  where
-    go : (x : Bool) → eqb b a ≡ x → eqb a b ≡ x
-    go true e = eq-eqb a b (sym (eqb-true b a e))
-    go false e = ne-eqb a b (λ z. eqb-false b a e (sym z))
-
--- donor 1 is the first alone, donor 2 the second
-only : (d s : ℕ) → eqb (donorNumber (d ∷ []) s) 1 ≡ eqb s d
-only d s = go (eqb d s) ∙ eqb-comm d s
-  where
-    go : (x : Bool) → eqb (cond x 1 0) 1 ≡ x
-    go true = refl
-    go false = refl
-
-first : (d e s : ℕ) → eqb (donorNumber (d ∷ e ∷ []) s) 1 ≡ eqb s d
-first d e s = go (eqb d s) (eqb e s) ∙ eqb-comm d s
-  where
-    go : (x y : Bool) → eqb (cond x 1 (cond y 2 0)) 1 ≡ x
-    go true y = refl
-    go false true = refl
-    go false false = refl
-
-second : (d e s : ℕ) → d < e → eqb (donorNumber (d ∷ e ∷ []) s) 2 ≡ eqb s e
-second d e s h = go (eqb d s) (eqb e s) refl refl ∙ eqb-comm e s
-  where
-    go : (x y : Bool) → eqb d s ≡ x → eqb e s ≡ y → eqb (cond x 1 (cond y 2 0)) 2 ≡ y
-    go true true a b = absurd (omega (arith, eqb-true d s a, eqb-true e s b))
-    go true false a b = refl
-    go false true a b = refl
-    go false false a b = refl
 
 -- a donor, of a sum above 0
 abbrev Donor : ℕ → List Lift → ℕ → Type 0
@@ -129,7 +80,7 @@ module _ (n : ℕ) (ls : List Lift) (l : Listed n ls) (r : ℕ) (f : Held → Fr
       → means ds ls (λ m. f (heldAmong ds (marked m (ofRound r ls)))) ≈ overHeld (withSums ds ls) (keyed (donorNumber ds) (ofRound r ls)) f
   unfolding means overHeld overInitial
   donors-mean a [] s c = ≈-refl (u Neither)
-  donors-mean a (d ∷ []) s c = sorted d r 1 (donorNumber (d ∷ [])) (only d) (sumOf Old d ls) (s .1 .1) n ls l (λ x. f (heldOf x elsewhere)) (λ x. u (heldOf x elsewhere))
+  donors-mean a (d ∷ []) s c = sorted d r 1 (donorNumber (d ∷ [])) (number-first d []) (sumOf Old d ls) (s .1 .1) n ls l (λ x. f (heldOf x elsewhere)) (λ x. u (heldOf x elsewhere))
   donors-mean a (d ∷ e ∷ []) s c =
       let T₁ = sumOf Old d ls in
       let T₂ = sumOf Old e ls in
@@ -149,8 +100,8 @@ module _ (n : ℕ) (ls : List Lift) (l : Listed n ls) (r : ℕ) (f : Held → Fr
       (λ i b v.
       let x = stands d (nth ls i) us in
       ≈-trans (mean-≈ e T₂ p₂ ls (both (nth ls i)) (λ y. f (heldOf x (stands e y us))) (λ y. u _) (λ y. u (heldOf x (stands e y us))) (apart i b v))
-      (sorted e r 2 key (λ k. second d e k (s .2 .0)) T₂ p₂ n ls l (λ y. f (heldOf x y)) (λ y. u (heldOf x y)))))
-      (sorted d r 1 key (first d e) T₁ p₁ n ls l inner w)
+      (sorted e r 2 key (number-second d e [] (s .2 .0)) T₂ p₂ n ls l (λ y. f (heldOf x y)) (λ y. u (heldOf x y)))))
+      (sorted d r 1 key (number-first d (e ∷ [])) T₁ p₁ n ls l inner w)
   donors-mean a (d ∷ e ∷ g ∷ ds) s c = absurd (omega (arith, leb-false 3 (length (d ∷ e ∷ g ∷ ds)) c))
 
 -- an old round of a fitting sheet has a sum above 0

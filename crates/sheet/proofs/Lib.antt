@@ -5,6 +5,7 @@ pub mod Lifts
 pub mod Walks
 pub mod Tables
 pub mod Bits
+pub mod Those
 pub mod Searches
 pub mod Sending
 pub mod Placing

@@ -18,7 +18,7 @@ use Rattle.sheet.specs.Rounds.{comes, sends, donors}
 use Rattle.sheet.specs.Tables.{bits, bitOf}
 use Rattle.sheet.specs.Law.{Placed, Listed}
 use Rattle.sheet.proofs.Bits.{bits-or, bits-none, bits-ones, or-assoc}
-use Rattle.sheet.proofs.Searches.{those-count}
+use Rattle.sheet.proofs.Those.{those-count}
 use Rattle.sheet.proofs.Tables.{Folds}
 use Rattle.sheet.proofs.Trips.{read-theorem}
 

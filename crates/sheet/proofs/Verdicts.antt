@@ -22,7 +22,7 @@ use Rattle.sheet.specs.declared.Found.{Found}
 use Rattle.sheet.specs.declared.Found.the-variants.{At, Nothing}
 use Rattle.sheet.proofs.Tables.{getD-tabulate}
 use Rattle.sheet.proofs.Sending.{donors-count}
-use Rattle.sheet.proofs.Searches.{those-ext, those-none, none-those}
+use Rattle.sheet.proofs.Those.{those-ext, those-none, none-those}
 
 -- ---- the tests on tables
 
