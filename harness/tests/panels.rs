@@ -3,7 +3,7 @@
 use harness::reference::{choose_by, donors, new_rounds, new_sum, old_sum};
 use harness::reference::{read_sheet, write_sheet, Reply, Round, Sheet, SheetLift};
 use harness::seeded::Seeded;
-use harness::sheets::{add_round_words, add_sheet_words, damaged_sheet, fitting_lifts};
+use harness::sheets::{add_round_words, add_sheet_words, any_lifts, damaged_sheet, fitting_lifts};
 use harness::sheets::{held, lift, numbered, Place, EXAMPLE, NONE};
 use harness::ways::{step, Drawn, Weights};
 use harness::{archive, reference};
@@ -440,17 +440,6 @@ fn full_sheets_agree() {
             script.check_short(counts.end - 1);
         }
     }
-}
-
-/// Lifts of a sheet that fits: mostly few, at times hundreds, seldom up to the most.
-fn any_lifts(seeded: &mut Seeded) -> Vec<SheetLift> {
-    let (most_lifts, most_rounds) = match seeded.below(1_000) {
-        0..3 => (4_096, 1_500),
-        3..40 => (300, 100),
-        _ => (12, 6),
-    };
-    let count = seeded.index(most_lifts + 1);
-    fitting_lifts(seeded, count, most_rounds)
 }
 
 /// How many words are lent: mostly all, else fewer.

@@ -3,7 +3,7 @@
 use harness::examples::{examples, sheet_bytes, words_bytes, SHEET_FILE, WORDS_FILE};
 use harness::reference::{self, read_sheet, write_sheet, SheetLift, LONGEST_SHEET};
 use harness::seeded::Seeded;
-use harness::sheets::{add_sheet_words, damaged_sheet, fitting_lifts, lifelike_lifts};
+use harness::sheets::{add_sheet_words, any_lifts, damaged_sheet, lifelike_lifts};
 use harness::sheets::{lift, numbered, Town, EXAMPLE, NONE};
 use std::fs::{self, File};
 use std::path::{Path, PathBuf};
@@ -244,17 +244,6 @@ fn words_for(seeded: &mut Seeded, lifts: &[SheetLift]) -> Vec<u64> {
     let mut words = Vec::new();
     add_sheet_words(seeded, &sheet, &mut words);
     words
-}
-
-/// Lifts of a sheet that fits: mostly few, at times hundreds, seldom up to the most.
-fn any_lifts(seeded: &mut Seeded) -> Vec<SheetLift> {
-    let (most_lifts, most_rounds) = match seeded.below(100) {
-        0 => (4_096, 1_500),
-        1..10 => (300, 100),
-        _ => (12, 6),
-    };
-    let count = seeded.index(most_lifts + 1);
-    fitting_lifts(seeded, count, most_rounds)
 }
 
 #[test]

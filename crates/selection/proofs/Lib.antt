@@ -2,6 +2,9 @@ pub mod Marks
 pub mod Means
 pub mod Standing
 pub mod Selections
+pub mod Held
+pub mod Naming
+pub mod Flags
 pub mod MarkedFits
 pub mod RoundsFit
 pub mod Weighing

@@ -20,6 +20,17 @@ const HIGHEST_NUMBER: u32 = (1 << 28) - 1;
 /// A new round and the two old rounds, or one, that may send it measure.
 type Flow = (u32, [u32; 2]);
 
+/// Lifts of a sheet that fits: mostly few, at times hundreds, seldom up to the most.
+pub fn any_lifts(seeded: &mut Seeded) -> Vec<SheetLift> {
+    let (most_lifts, most_rounds) = match seeded.below(1_000) {
+        0..3 => (4_096, 1_500),
+        3..40 => (300, 100),
+        _ => (12, 6),
+    };
+    let count = seeded.index(most_lifts + 1);
+    fitting_lifts(seeded, count, most_rounds)
+}
+
 /// Lifts of a sheet that fits, in up to so many old rounds and as many new ones.
 pub fn fitting_lifts(seeded: &mut Seeded, count: usize, most_rounds: usize) -> Vec<SheetLift> {
     let old_rounds = some_rounds(seeded, most_rounds);

@@ -1,0 +1,145 @@
+-- In every fitting sheet the marks of a round are the held lifts that its choice starts from.
+use Prim.Native.Nat.{ℕ, zero, suc, _+_, _≤_}
+use mathlib.Core.Path.{_≡_, refl, sym, ap, ap₂, _∙_}
+use mathlib.Core.Bool.{Bool, true, false, cond, _&&_, _||_, or-false, or-true, and-false, and-or-distrib-left, false≢true}
+use mathlib.Core.List.{List, [], _∷_, List·Memᴰ, List·Memᴰ·head, List·Memᴰ·tail, List·Memᴰ·not-nil, List·Memᴰ·cases-cons, List·Memᴰ·eq-of-singleton}
+use mathlib.Core.Logic.{_⊎_, inl, inr}
+use native.Mathlib.Nat.{le-trans}
+use native.Mathlib.Omega.{arith}
+use lib.Dec.{eqb, leb, eqb·suc-zero, eqb·zero-suc, eqb·suc-suc}
+use lib.ListN.{length, getD}
+use borrow.Author.Tests.{eqb-true, leb-false, eq-eqb, lt-ltb}
+use Rattle.laws.specs.Sum.{totalBy, indicator}
+use Rattle.laws.proofs.Lists.{All, all-none, all-keep, all-getD}
+use Rattle.round.specs.Choice.{isHeld}
+use Rattle.round.specs.Share.{Initial, here, elsewhere, heldOf}
+use Rattle.sheet.specs.Sheet.{mostRounds, Lift, lifts}
+use Rattle.sheet.specs.Rounds.{comes, sends, donors, ofRound, heldIn as heldCount}
+use Rattle.sheet.specs.Law.{Listed, Fitting}
+use Rattle.sheet.proofs.Those.{those-has}
+use Rattle.sheet.proofs.Trips.{read-theorem}
+use Rattle.selection.specs.Choice.{further, heldAt, heldAmong, heldIn, nobody, liftAt}
+use Rattle.selection.proofs.Held.{proper, somewhere, held-one}
+
+-- ---- the marks of a round
+
+-- whether an initial selection is at place i
+abbrev isAt : Initial → ℕ → Bool
+isAt (here j) i = eqb j i
+isAt elsewhere i = false
+
+-- one of two initial selections is at a place
+held-of : (x y : Initial) (i : ℕ) → isHeld (heldOf x y) i ≡ (isAt x i || isAt y i)
+held-of elsewhere elsewhere i = refl
+held-of (here a) elsewhere i = sym (or-false (eqb a i))
+held-of elsewhere (here b) i = refl
+held-of (here a) (here b) i = go (eqb a i)
+  where
+    go : (t : Bool) → cond t true (eqb b i) ≡ (t || eqb b i)
+    go true = refl
+    go false = refl
+
+-- whether a lift is held and of old round t
+abbrev holds : ℕ → Lift → Bool
+holds t l = l .held && eqb (l .old .round) t
+
+-- if it is, it counts
+holds-counts : (t : ℕ) (l : Lift) → indicator (holds t l) ≡ cond (eqb (l .old .round) t) (indicator (l .held)) 0
+holds-counts t l = go (l .held) (eqb (l .old .round) t)
+  where
+    go : (x y : Bool) → indicator (x && y) ≡ cond y (indicator x) 0
+    go true true = refl
+    go true false = refl
+    go false true = refl
+    go false false = refl
+
+-- where none counts, none is
+none-holds : (t : ℕ) (ls : List Lift) → heldCount t ls ≡ 0 → (i : ℕ) → holds t (getD ls i nobody) ≡ false
+unfolding totalBy
+none-holds t [] e i = refl
+none-holds t (l ∷ ls) e zero = go (holds t l) (omega (arith, holds-counts t l))
+  where
+    go : (x : Bool) → indicator x ≡ 0 → x ≡ false
+    go true e = absurd (omega arith)
+    go false e = refl
+none-holds t (l ∷ ls) e (suc i) = none-holds t ls (omega arith) i
+
+-- where at most one lift is, its place is found
+found : (t : ℕ) (ls : List Lift) → heldCount t ls ≤ 1 → (i : ℕ) → isAt (heldAt t ls) i ≡ holds t (getD ls i nobody)
+unfolding heldAt totalBy
+found t [] h i = refl
+found t (l ∷ ls) h zero = go (holds t l) (heldAt t ls)
+  where
+    go : (x : Bool) (p : Initial) → isAt (cond x (here 0) (further p)) 0 ≡ x
+    go true p = refl
+    go false (here j) = eqb·suc-zero j
+    go false elsewhere = refl
+found t (l ∷ ls) h (suc i) = go (holds t l) refl (heldAt t ls) (found t ls (omega arith) i)
+  where
+    go : (x : Bool) → holds t l ≡ x → (p : Initial) → isAt p i ≡ holds t (getD ls i nobody) → isAt (cond x (here 0) (further p)) (suc i) ≡ holds t (getD ls i nobody)
+    go true e p q = eqb·zero-suc i ∙ sym (none-holds t ls (omega (arith, holds-counts t l, ap indicator e)) i)
+    go false e (here j) q = eqb·suc-suc j i ∙ q
+    go false e elsewhere q = q
+
+both : (b c : Bool) → (b ≡ true → c ≡ true) → b ≡ (b && c)
+both true c h = sym (h refl)
+both false c h = refl
+
+-- the marks of lifts of at most two old rounds, at most one in each
+among : (ls : List Lift) → ((t : ℕ) → heldCount t ls ≤ 1) → (i : ℕ) (ds : List ℕ) → leb 3 (length ds) ≡ false
+    → (getD ls i nobody .held ≡ true → List·Memᴰ (getD ls i nobody .old .round) ds) → getD ls i nobody .held ≡ isHeld (heldAmong ds ls) i
+among ls h i [] few m = both (getD ls i nobody .held) false (λ e. absurd (List·Memᴰ·not-nil (m e))) ∙ and-false (getD ls i nobody .held)
+among ls h i (d ∷ []) few m =
+    both (getD ls i nobody .held) _ (λ e. eq-eqb _ d (List·Memᴰ·eq-of-singleton (m e)))
+    ∙ sym (held-of (heldAt d ls) elsewhere i ∙ or-false _ ∙ found d ls (h d) i)
+among ls h i (d ∷ e ∷ []) few m =
+    both (getD ls i nobody .held) _ (λ q. either (List·Memᴰ·cases-cons (m q)))
+    ∙ and-or-distrib-left (getD ls i nobody .held) _ _ ∙ sym (held-of (heldAt d ls) (heldAt e ls) i ∙ ap₂ _||_ (found d ls (h d) i) (found e ls (h e) i))
+  where
+    either : {t : ℕ} → (t ≡ d) ⊎ List·Memᴰ t (e ∷ []) → (eqb t d || eqb t e) ≡ true
+    either {t} (inl q) = rw (eq-eqb t d q)
+    either {t} (inr k) = rw (eq-eqb t e (List·Memᴰ·eq-of-singleton k)) (or-true (eqb t d))
+among ls h i (d ∷ e ∷ f ∷ ds) few m = absurd (omega (arith, leb-false 3 (length (d ∷ e ∷ f ∷ ds)) few))
+
+-- what holds of the lifts of new round r
+ofRound-all : (P : Lift → Type 0) (r : ℕ) (ls : List Lift) → All (λ l. l .new .round ≡ r → P l) ls → All P (ofRound r ls)
+unfolding ofRound
+ofRound-all P r [] h = all-none P
+ofRound-all P r (l ∷ ls) h =
+    all-keep P (eqb (l .new .round) r) (λ e. h l (List·Memᴰ·head refl) (eqb-true (l .new .round) r e)) (ofRound-all P r ls (λ k m. h k (List·Memᴰ·tail m)))
+
+-- no more lifts are held in a new round than in all
+ofRound-held : (r t : ℕ) (ls : List Lift) → heldCount t (ofRound r ls) ≤ heldCount t ls
+unfolding ofRound totalBy
+ofRound-held r t [] = omega arith
+ofRound-held r t (l ∷ ls) = go (eqb (l .new .round) r) (ofRound-held r t ls)
+  where
+    go : (x : Bool) → heldCount t (ofRound r ls) ≤ heldCount t ls → heldCount t (cond x (l ∷ ofRound r ls) (ofRound r ls)) ≤ cond (eqb (l .old .round) t) (indicator (l .held)) 0 + heldCount t ls
+    go true h = omega arith
+    go false h = omega arith
+
+-- a lift of old measure above 0 makes its old round a donor
+sends-has : (t r : ℕ) {l : Lift} {ls : List Lift} → List·Memᴰ l ls → comes t r l ≡ true → sends t r ls ≡ true
+unfolding sends
+sends-has t r (List·Memᴰ·head {xs = ls} e) c = rw (← e, c)
+sends-has t r (List·Memᴰ·tail {x = x} m) c = rw (sends-has t r m c) (or-true (comes t r x))
+
+-- in every fitting sheet the marks are the held lifts that the round's choice starts from
+pub flagged : (ws : List ℕ) → Fitting ws → (r : ℕ) → 1 ≤ r → r ≤ mostRounds → (i : ℕ) → liftAt r (lifts ws) i .held ≡ isHeld (heldIn r (lifts ws)) i
+unfolding liftAt heldIn
+flagged ws f r a b i =
+    among (ofRound r (lifts ws)) (λ t. le-trans (ofRound-held r t (lifts ws)) (held-one (lifts ws) d (f .held) t)) i (donors r (lifts ws)) (f .donors r a b)
+    (all-getD Donor (λ e. absurd (false≢true e)) (ofRound r (lifts ws)) (ofRound-all Donor r (lifts ws) donor) i)
+  where
+    d : Listed 0 (lifts ws)
+    d = read-theorem ws (f .words) .listable .listed
+
+    Donor : Lift → Type 0
+    Donor l = l .held ≡ true → List·Memᴰ (l .old .round) (donors r (lifts ws))
+
+    donor : All (λ l. l .new .round ≡ r → Donor l) (lifts ws)
+    donor l m q e =
+        let p = proper 0 (lifts ws) d l m in
+        those-has (λ t. sends t r (lifts ws)) 1 mostRounds (l .old .round)
+        (sends-has (l .old .round) r m (rw (eq-eqb (l .old .round) (l .old .round) refl, eq-eqb (l .new .round) r q, lt-ltb 0 (l .old .measure) (p .held e))))
+        (somewhere p e) (omega (arith, p .old .round))
