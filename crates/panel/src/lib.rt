@@ -23,6 +23,11 @@ use sheet::Refusal;
 use sheet::Sheet;
 use sheet::Side;
 
+// The kinds of a choice's two words: its round and outcome, and the number of its lift.
+const CHOICE: u32 = 5;
+
+const CHOSEN: u32 = 6;
+
 // The answer to a sheet and what was lent: refused because of the sheet, the start position, the words that the output must have, the
 // round in which the random words ended; or how many choices and how many words were read.
 pub enum Answer {
@@ -70,7 +75,6 @@ fn bit(low: u64, high: u64, t: u64) -> bool
 
 // The first round from a number up whose bit is set.
 fn round_from(low: u64, high: u64, from: u64) -> Found
-    requires { ⌜ from ≤ mostRounds + 1 ⌝ }
     ensures { λ r. ⌜ r ≡ first (those (bitAt low high) from (mostRounds + 1 - from)) ⌝ }
 {
     let mut t = from;
@@ -241,8 +245,8 @@ fn pick(p: Picks, round: usize, number: u64, outcome: u32, next: usize) -> Picks
     let k = p.count;
     let mut firsts = p.firsts;
     let mut seconds = p.seconds;
-    firsts[k] = 0x5000_0000 + round as u32 * 0x20_0000 + outcome;
-    seconds[k] = 0x6000_0000 + number as u32;
+    firsts[k] = Sheet::word(CHOICE, Sheet::place(round as u32, outcome));
+    seconds[k] = Sheet::word(CHOSEN, number as u32);
     Picks {
         count: k + 1,
         firsts,

@@ -1,11 +1,11 @@
 // The sheet: its words read, checked and refused ("The sheet" and "Refused because of the sheet" of document 01), and what a
 // legible sheet tells of its lifts and rounds.
 ghost use mathlib.Core.Path.{_≡_};
-ghost use Prim.Native.Nat.{_+_, _≤_, _<_};
+ghost use Prim.Native.Nat.{_+_, _*_, _^_, _≤_, _<_};
 ghost use lib.Dec.{ltb};
 ghost use lib.ListN.{length, getD, drop};
 ghost use Rattle.laws.specs.Sum.{indicator};
-ghost use Rattle.sheet.specs.Sheet.{longest, kind as kindOf, payload as payloadOf, placeOf, liftOf, lifts};
+ghost use Rattle.sheet.specs.Sheet.{longest, kind as kindOf, payload as payloadOf, placeOf, liftOf, lifts, word as wordOf};
 ghost use Rattle.sheet.specs.Reading.{next as nextOf, follows as followsOf, misnumbered as misnumberedOf, misplaced as misplacedOf, miscounted as miscountedOf, mismarked as mismarkedOf, fault, unless, sound, reading, Legible};
 ghost use Rattle.sheet.specs.Rounds.{rounds, placeAt, inUse};
 ghost use Rattle.sheet.specs.Refusal.{unheld, oversize, unmeasured, crowded, ofRounds, verdict, refusal, told, toldOfWords};
@@ -70,6 +70,24 @@ impl Sheet {
         ensures { λ r. ⌜ r ≡ placeOf word .measure ⌝ }
     {
         (Self::payload(word) % Self::MEASURES) as u64
+    }
+
+    // The word of a kind and a payload.
+    pub fn word(kind: u32, payload: u32) -> u32
+        requires { ⌜ kind < 16 ⌝ }
+        requires { ⌜ payload < 2 ^ 28 ⌝ }
+        ensures { λ r. ⌜ r ≡ wordOf kind payload ⌝ }
+    {
+        kind * Self::PAYLOADS + payload
+    }
+
+    // The payload of a round and a measure.
+    pub fn place(round: u32, measure: u32) -> u32
+        requires { ⌜ round < 2 ^ 7 ⌝ }
+        requires { ⌜ measure < 2 ^ 21 ⌝ }
+        ensures { λ r. ⌜ r ≡ round * 2 ^ 21 + measure ⌝ }
+    {
+        round * Self::MEASURES + measure
     }
 }
 

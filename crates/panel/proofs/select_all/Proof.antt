@@ -25,19 +25,34 @@ donors-requires-2 : tie.Need-donors-requires-2
 donors-requires-2 c κs = legible (c .before .before .before .before .before .pre .0)
 
 gather-requires : tie.Need-gather-requires
-gather-requires c κs = (legible (c .before .before .before .before .before .before .pre .0), (c .before .before .before .starts .ensures, ((c .before .before .before .before .before .before .pre .1, lifts-few (c .before .before .before .before .before .before .pre)))))
+gather-requires c κs =
+    let starts = c .before .before .before in
+    let p = starts .before .before .before .pre in
+    (legible (p .0), (starts .starts .ensures, (p .1, lifts-few p)))
 
 gather-requires-2 : tie.Need-gather-requires-2
-gather-requires-2 c κs = (legible (c .before .before .before .before .before .before .before .pre .0), (c .before .before .before .before .starts .ensures, ((c .before .before .before .before .before .before .before .pre .1, lifts-few (c .before .before .before .before .before .before .before .pre)))))
+gather-requires-2 c κs =
+    let starts = c .before .before .before .before in
+    let p = starts .before .before .before .pre in
+    (legible (p .0), (starts .starts .ensures, (p .1, lifts-few p)))
 
 gather-requires-3 : tie.Need-gather-requires-3
-gather-requires-3 c κs = (legible (c .before .before .before .before .before .before .before .before .pre .0), (c .before .before .before .before .before .starts .ensures, ((c .before .before .before .before .before .before .before .before .pre .1, lifts-few (c .before .before .before .before .before .before .before .before .pre)))))
+gather-requires-3 c κs =
+    let starts = c .before .before .before .before .before in
+    let p = starts .before .before .before .pre in
+    (legible (p .0), (starts .starts .ensures, (p .1, lifts-few p)))
 
 gather-requires-4 : tie.Need-gather-requires-4
-gather-requires-4 c κs = (legible (c .before .before .before .before .before .before .before .before .before .pre .0), (c .before .before .before .before .before .before .starts .ensures, ((c .before .before .before .before .before .before .before .before .before .pre .1, lifts-few (c .before .before .before .before .before .before .before .before .before .pre)))))
+gather-requires-4 c κs =
+    let starts = c .before .before .before .before .before .before in
+    let p = starts .before .before .before .pre in
+    (legible (p .0), (starts .starts .ensures, (p .1, lifts-few p)))
 
 gather-requires-5 : tie.Need-gather-requires-5
-gather-requires-5 c κs = (legible (c .before .before .before .before .before .before .before .before .before .before .pre .0), (c .before .before .before .before .before .before .before .starts .ensures, ((c .before .before .before .before .before .before .before .before .before .before .pre .1, lifts-few (c .before .before .before .before .before .before .before .before .before .before .pre)))))
+gather-requires-5 c κs =
+    let starts = c .before .before .before .before .before .before .before in
+    let p = starts .before .before .before .pre in
+    (legible (p .0), (starts .starts .ensures, (p .1, lifts-few p)))
 
 array-share-prefix-number : tie.Need-array-share-prefix-number
 array-share-prefix-number c = omega (arith, lifts-few (c .before .before .before .before .before .before .before .before .before .before .before .pre), c .before .before .before .before .gather .ok .1 .0 .1)
@@ -78,28 +93,59 @@ slice-aggregate-select-rounds-6 c = sym (length-take-le _ _ (array-borrow-prefix
 -- what is lent, and that it is the sheet's
 abbrev given : (c : tie.After-high) → Lent
 given c =
-    lent (take (c .before .before .before .before .before .before .before .before .before .before .before .before .before .before .before .before .before .before .before .before .before .args .lifts) (c .before .before .before .before .before .before .before .before .before .before .before .before .before .before .gather .result)) (take (c .before .before .before .before .before .before .before .before .before .before .before .before .before .before .before .before .before .before .before .before .before .args .lifts) (c .before .before .before .before .before .before .before .before .before .before .before .before .before .gather2 .result)) (take (c .before .before .before .before .before .before .before .before .before .before .before .before .before .before .before .before .before .before .before .before .before .args .lifts) (c .before .before .before .before .before .before .before .before .before .before .before .before .gather3 .result)) (take (c .before .before .before .before .before .before .before .before .before .before .before .before .before .before .before .before .before .before .before .before .before .args .lifts) (c .before .before .before .before .before .before .before .before .before .before .before .gather4 .result)) (take (c .before .before .before .before .before .before .before .before .before .before .before .before .before .before .before .before .before .before .before .before .before .args .lifts) (c .before .before .before .before .before .before .before .before .before .before .gather5 .result)) (c .before .before .before .before .before .before .before .before .before .before .before .before .before .before .before .before .before .before .starts .result) (c .before .before .before .before .before .before .before .before .before .before .before .before .before .before .before .before .before .tally .result) (c .before .before .before .before .before .before .before .before .before .before .before .before .before .before .before .before .donors .result) (c .before .before .before .before .before .before .before .before .before .before .before .before .before .before .before .donors2 .result)
+    let held = c .before .before .before .before .before .before .before .before .before .before in
+    let new = held .before in
+    let old = new .before in
+    let from = old .before in
+    let number = from .before in
+    let high = number .before in
+    let low = high .before in
+    let sums = low .before in
+    let starts = sums .before in
+    let n = starts .before .before .before .args .lifts in
+    lent (take n (number .gather .result)) (take n (from .gather2 .result)) (take n (old .gather3 .result)) (take n (new .gather4 .result)) (take n (held .gather5 .result)) (starts .starts .result) (sums .tally .result) (low .donors .result) (high .donors2 .result)
 
 lends : (c : tie.After-high) → Lends (c .before .before .before .before .before .before .before .before .before .before .before .before .before .before .before .before .before .before .before .before .before .args .sheet .now) (given c)
 lends c =
+    let held = c .before .before .before .before .before .before .before .before .before .before in
+    let new = held .before in
+    let old = new .before in
+    let from = old .before in
+    let number = from .before in
+    let high = number .before in
+    let low = high .before in
+    let sums = low .before in
+    let starts = sums .before in
+    let begin = starts .before .before .before in
     record {
-      fitting = c .before .before .before .before .before .before .before .before .before .before .before .before .before .before .before .before .before .before .before .before .before .pre .0;
-      numbers = c .before .before .before .before .before .before .before .before .before .before .before .before .before .before .gather .ensures;
-      from = c .before .before .before .before .before .before .before .before .before .before .before .before .before .gather2 .ensures;
-      old = c .before .before .before .before .before .before .before .before .before .before .before .before .gather3 .ensures;
-      new = c .before .before .before .before .before .before .before .before .before .before .before .gather4 .ensures;
-      held = c .before .before .before .before .before .before .before .before .before .before .gather5 .ensures;
-      starts = c .before .before .before .before .before .before .before .before .before .before .before .before .before .before .before .before .before .before .starts .ensures;
-      sums = c .before .before .before .before .before .before .before .before .before .before .before .before .before .before .before .before .before .tally .ensures;
-      low = c .before .before .before .before .before .before .before .before .before .before .before .before .before .before .before .before .donors .ensures;
-      high = c .before .before .before .before .before .before .before .before .before .before .before .before .before .before .before .donors2 .ensures;
+      fitting = begin .pre .0;
+      numbers = number .gather .ensures;
+      from = from .gather2 .ensures;
+      old = old .gather3 .ensures;
+      new = new .gather4 .ensures;
+      held = held .gather5 .ensures;
+      starts = starts .starts .ensures;
+      sums = sums .tally .ensures;
+      low = low .donors .ensures;
+      high = high .donors2 .ensures;
     }
 
 select-rounds-requires : tie.Need-select-rounds-requires
-select-rounds-requires c κs = (lends-ready (lends c) (c .before .before .before .before .before .before .before .before .before .before .before .before .before .before .before .before .before .before .before .before .before .pre .1) (slice-aggregate-select-rounds (c .before .before .before .before .before .before .before .before .before)) (slice-aggregate-select-rounds-2 (c .before .before .before .before .before .before .before .before)) (slice-aggregate-select-rounds-3 (c .before .before .before .before .before .before .before)) (slice-aggregate-select-rounds-4 (c .before .before .before .before .before .before)) (slice-aggregate-select-rounds-5 (c .before .before .before .before .before)), (sym (slice-aggregate-select-rounds-6 (c .before .before .before .before)) ∙ slice-aggregate-select-rounds (c .before .before .before .before .before .before .before .before .before)))
+select-rounds-requires c κs =
+    let donor = c .before .before .before .before in
+    let held = donor .before in
+    let new = held .before in
+    let old = new .before in
+    let from = old .before in
+    let number = from .before in
+    let begin = number .before .before .before .before .before .before .before .before .before .before .before .before in
+    (lends-ready (lends c) (begin .pre .1) (slice-aggregate-select-rounds number) (slice-aggregate-select-rounds-2 from) (slice-aggregate-select-rounds-3 old) (slice-aggregate-select-rounds-4 new) (slice-aggregate-select-rounds-5 held), sym (slice-aggregate-select-rounds-6 donor) ∙ slice-aggregate-select-rounds number)
 
 returns : tie.Need-returns
-returns c = subst (Picked (panel (lifts (c .before .before .before .before .before .before .before .before .before .before .before .before .before .before .before .before .before .before .before .before .before .before .before .args .sheet .now)) (c .before .before .before .before .before .before .before .before .before .before .before .before .before .before .before .before .before .before .before .before .before .before .before .args .words .now) (c .before .before .before .before .before .before .before .before .before .before .before .before .before .before .before .before .before .before .before .before .before .before .before .args .start))) (sym (c .before .select-rounds .ensures)) (gathered (lends (c .before .before)) (c .before .before .before .before .before .before .before .before .before .before .before .before .before .before .before .before .before .before .before .before .before .before .before .args .words .now) (c .before .before .before .before .before .before .before .before .before .before .before .before .before .before .before .before .before .before .before .before .before .before .before .args .start))
+returns c =
+    let a = c .before .before .before .before .before .before .before .before .before .before .before .before .before .before .before .before .before .before .before .before .before .before .before .args in
+    subst (Picked (panel (lifts (a .sheet .now)) (a .words .now) (a .start))) (sym (c .before .select-rounds .ensures))
+    (gathered (lends (c .before .before)) (a .words .now) (a .start))
 
 pub select-all-spec : {M : Type 1} → statement M
 select-all-spec =

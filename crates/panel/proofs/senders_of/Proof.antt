@@ -18,7 +18,7 @@ add-round-from : tie.Need-add-round-from
 add-round-from c = omega (arith, leads _ (c .before .before .before .round-from .ensures) (c .before .d .given .1) .upto)
 
 round-from-requires-2 : tie.Need-round-from-requires-2
-round-from-requires-2 c κs = omega (arith, leads _ (c .before .before .before .round-from .ensures) (c .before .d .given .1) .upto)
+round-from-requires-2 c κs = search needs
 
 enum-told-2 : tie.Need-enum-told-2
 enum-told-2 c = search needs
