@@ -1,9 +1,10 @@
 -- Files with what is printed of them, as one table to be computed.
 use Prim.Native.Nat.{ℕ, zero, suc, _/_, _%_}
-use mathlib.Core.Bool.{Bool, true, false, _&&_}
+use mathlib.Core.Bool.{Bool, true, _&&_}
 use mathlib.Core.List.{List, [], _∷_, _++_}
-use lib.Dec.{eqb}
 use lib.ListN.{length}
+use Rattle.sheet.specs.Worked.{example}
+use Rattle.selection.specs.Worked.{same}
 use Rattle.report.specs.Report.{space, LF, wordsLabel, refusedLabel, report}
 
 -- the bytes of the sheet and of the words, and the text
@@ -14,12 +15,6 @@ pub record Case : Type 0 where
 
 abbrev case : List ℕ → List ℕ → List ℕ → Case
 case sheet words text = record { sheet = sheet; words = words; text = text }
-
-abbrev pub same : List ℕ → List ℕ → Bool
-same [] [] = true
-same [] (y ∷ ys) = false
-same (x ∷ xs) [] = false
-same (x ∷ xs) (y ∷ ys) = eqb x y && same xs ys
 
 abbrev pub allRight : List Case → Bool
 allRight [] = true
@@ -35,21 +30,20 @@ abbrev file : ℕ → List ℕ → List ℕ
 file size [] = []
 file size (w ∷ ws) = bytes size w ++ file size ws
 
--- the document's sheet
-abbrev example : List ℕ
-example =
-    file 4 (0x1000000B ∷ 0x20200002 ∷ 0x30200004 ∷ 0x1000000C ∷ 0x20200003 ∷ 0x30200001 ∷ 0x40000000 ∷ 0x1000000D ∷ 0x20200005 ∷ 0x30200005 ∷ 0xF0000003 ∷ [])
+-- the bytes of the document's sheet
+abbrev exampleFile : List ℕ
+exampleFile = file 4 example
 
 abbrev pub cases : List Case
 cases =
     -- "chance words 10 and 0, prints 1 11 2, words 2"
-    case example (file 8 (10 ∷ 0 ∷ [])) (49 ∷ space ∷ 49 ∷ 49 ∷ space ∷ 50 ∷ LF ∷ wordsLabel ++ (50 ∷ LF ∷ []))
+    case exampleFile (file 8 (10 ∷ 0 ∷ [])) (49 ∷ space ∷ 49 ∷ 49 ∷ space ∷ 50 ∷ LF ∷ wordsLabel ++ (50 ∷ LF ∷ []))
     -- "an unfinished last word is ignored": refusal 13 in round 1
-    ∷ case example (file 8 (10 ∷ []) ++ (0 ∷ 0 ∷ [])) (refusedLabel ++ (49 ∷ 51 ∷ space ∷ 49 ∷ LF ∷ []))
+    ∷ case exampleFile (file 8 (10 ∷ []) ++ (0 ∷ 0 ∷ [])) (refusedLabel ++ (49 ∷ 51 ∷ space ∷ 49 ∷ LF ∷ []))
     -- "A file that cannot be read counts as empty."
     ∷ case [] [] (refusedLabel ++ (49 ∷ space ∷ 48 ∷ LF ∷ []))
     -- "A sheet of bytes not divisible by 4, however long, is refusal 1 with its byte length as place."
-    ∷ case (example ++ (0 ∷ [])) [] (refusedLabel ++ (49 ∷ space ∷ 52 ∷ 53 ∷ LF ∷ []))
+    ∷ case (exampleFile ++ (0 ∷ [])) [] (refusedLabel ++ (49 ∷ space ∷ 52 ∷ 53 ∷ LF ∷ []))
     -- "A sheet of one end word with 0 lifts is accepted and has no choices."
     ∷ case (file 4 (0xF0000000 ∷ [])) [] (wordsLabel ++ (48 ∷ LF ∷ []))
     ∷ []

@@ -8,6 +8,7 @@ use lib.ListN.{length}
 use Rattle.sheet.specs.Sheet.{Lift, sheetOf}
 use Rattle.sheet.specs.Reading.{numbered}
 use Rattle.sheet.specs.Rounds.{sumOf}
+use Rattle.sheet.specs.Worked.{lift, example}
 use Rattle.sheet.specs.declared.Side.the-variants.{New}
 use Rattle.selection.specs.Choice.{liftAt, Reply, refusal, replied, reply, pair, output}
 use Rattle.selection.specs.Fair.{share}
@@ -52,18 +53,9 @@ abbrev pub allRight : List Case → Bool
 allRight [] = true
 allRight (c ∷ cs) = right c && allRight cs
 
--- a lift by its number, old place, new place and whether it is held
-abbrev lift : ℕ → ℕ → ℕ → ℕ → ℕ → Bool → Lift
-lift n t m r b h = record { number = n; old = record { round = t; measure = m }; new = record { round = r; measure = b }; held = h }
-
 -- "Lifts 11, 12, 13, old 2, 3, 5, new 4, 1, 5", the lift of a number held
 abbrev three : ℕ → List ℕ
 three n = sheetOf (lift 11 1 2 1 4 (eqb n 11) ∷ lift 12 1 3 1 1 (eqb n 12) ∷ lift 13 1 5 1 5 (eqb n 13) ∷ [])
-
--- the document's whole sheet: 12 held
-abbrev example : List ℕ
-example =
-    0x1000000B ∷ 0x20200002 ∷ 0x30200004 ∷ 0x1000000C ∷ 0x20200003 ∷ 0x30200001 ∷ 0x40000000 ∷ 0x1000000D ∷ 0x20200005 ∷ 0x30200005 ∷ 0xF0000003 ∷ []
 
 -- three newcomers of measure 1: a draw below 3
 abbrev newcomers : List ℕ

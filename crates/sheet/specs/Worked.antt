@@ -26,11 +26,11 @@ allRight [] = true
 allRight (c ∷ cs) = sameVerdict (verdict (c .sheet)) (c .answer) && allRight cs
 
 -- a lift by its number, old place, new place and whether it is held
-abbrev lift : ℕ → ℕ → ℕ → ℕ → ℕ → Bool → Lift
+abbrev pub lift : ℕ → ℕ → ℕ → ℕ → ℕ → Bool → Lift
 lift n t m r b h = record { number = n; old = record { round = t; measure = m }; new = record { round = r; measure = b }; held = h }
 
 -- the document's sheet: lifts 11, 12 and 13, 12 held
-abbrev example : List ℕ
+abbrev pub example : List ℕ
 example =
     0x1000000B ∷ 0x20200002 ∷ 0x30200004 ∷ 0x1000000C ∷ 0x20200003 ∷ 0x30200001 ∷ 0x40000000 ∷ 0x1000000D ∷ 0x20200005 ∷ 0x30200005 ∷ 0xF0000003 ∷ []
 
