@@ -235,8 +235,7 @@ fn put_text(sheet: &[u8], words: &[u8], text: &mut [u8]) -> usize
 }
 
 // The whole text, from what was read of the sheet, its true length in bytes, and what was read of the words; answers how long it is.
-pub fn report(sheet: &[u8], size: usize, words: &[u8], text: &mut [u8]) -> usize
-    requires { ⌜ textRoom ≤ length (now text) ⌝ }
+pub fn report(sheet: &[u8], size: usize, words: &[u8], text: &mut [u8; ROOM]) -> usize
     ensures is { λ r. ⌜ take r (now (text .exit)) ≡ reportOf (now (sheet .entry)) size (now (words .entry)) ⌝ }
     ensures fits { λ r. ⌜ r ≤ length (now (text .exit)) ⌝ }
 {

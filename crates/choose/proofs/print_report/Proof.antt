@@ -6,9 +6,6 @@ use Rattle.choose.proofs.Prints.{printed}
 use Rattle.choose.proofs.print_report.Statement.{statement}
 use Rattle.choose.proofs.print_report.Tie as tie
 
-slice-aggregate-report : tie.Need-slice-aggregate-report
-slice-aggregate-report c = search needs
-
 report-requires : tie.Need-report-requires
 report-requires c κs = search needs
 
@@ -16,10 +13,10 @@ array-share-prefix-text : tie.Need-array-share-prefix-text
 array-share-prefix-text c = search needs
 
 slice-aggregate-print : tie.Need-slice-aggregate-print
-slice-aggregate-print c = sym (length-take-le _ _ (c .before .before .report .ensures .1))
+slice-aggregate-print c = sym (length-take-le _ _ (c .before .report .ensures .1))
 
 print-requires : tie.Need-print-requires
-print-requires c κs = printed _ _ _ (c .before .before .report .ensures .0)
+print-requires c κs = printed _ _ _ (c .before .report .ensures .0)
 
 returns : tie.Need-returns
 returns c = search needs
@@ -28,7 +25,6 @@ pub print-report-spec : {M : Type 1} → statement M
 print-report-spec =
     tie.close
     (tie.spec
-    slice-aggregate-report
     report-requires
     array-share-prefix-text
     slice-aggregate-print
