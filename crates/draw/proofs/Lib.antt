@@ -1,3 +1,4 @@
 pub mod Draws
 pub mod Exactly
 pub mod Runs
+pub mod Positions

@@ -1,26 +1,23 @@
 -- The answer to a fitting sheet and the output: one law for each way out.
-use Prim.Native.Nat.{ℕ, suc, _+_, _-_, _*_, _%_, _≤_, _<_}
+use Prim.Native.Nat.{ℕ, suc, _+_, _-_, _*_, _≤_, _<_}
 use mathlib.Core.Path.{_≡_, refl, sym, ap, _∙_}
-use mathlib.Core.Bool.{Bool, true, false, cond}
 use mathlib.Core.List.{List, [], _∷_, _++_, map}
 use native.Mathlib.Omega.{arith}
 use lib.Dec.{ltb}
 use lib.ListN.{length, take, drop}
 use lib.Seq.{drop-drop}
 use borrow.Author.Tests.{lt-ltb, le-ltb}
-use Rattle.laws.specs.Plan.{Plan, done, draw}
-use Rattle.draw.specs.Draw.{largest, K, drawFrom, drawAt}
-use Rattle.draw.specs.declared.Drawn.{Drawn}
-use Rattle.draw.specs.declared.Drawn.the-variants.{Value, Short}
-use Rattle.draw.specs.Run.{Run, finished, short as ended, drew, follow, run}
-use Rattle.round.specs.Choice.{Selection, outcome}
+use Rattle.draw.specs.Draw.{largest}
+use Rattle.draw.specs.Run.{finished, short as ended}
+use Rattle.draw.proofs.Positions.{run-between}
 use Rattle.sheet.specs.Sheet.{mostRounds, Lift, lifts}
 use Rattle.sheet.specs.Reading.{Numbered, numbered}
 use Rattle.sheet.specs.Rounds.{named, inUse}
 use Rattle.sheet.proofs.Those.{those-few}
 use Rattle.sheet.specs.Refusal.{refused, fits, verdict}
 use Rattle.sheet.specs.declared.Side.the-variants.{New}
-use Rattle.selection.specs.Choice.{heldIn, planOf, liftAt, Choice, Panel, chosen, short, preceded, andThen, panelFrom, panel, Reply, refusal, replied, ofPanel, ofLent, reply, written, writtenOf, unlessRefused, output}
+use Rattle.selection.specs.Choice.{planOf, Choice, Panel, chosen, short, panel, Reply, refusal, replied, ofPanel, ofLent, reply, written, writtenOf, unlessRefused, output}
+use Rattle.selection.proofs.Steps.{Steps, none, some, steps}
 use Rattle.panel.specs.Slices.{firstWord, secondWord, pairs, Picked}
 use Rattle.panel.specs.declared.Picks.{Picks}
 
@@ -32,31 +29,6 @@ written-pairs [] out = refl
 written-pairs (c ∷ cs) out =
     let n : 2 + 2 * length cs ≡ 2 * suc (length cs) = omega arith in
     ap (λ l. firstWord c ∷ secondWord c ∷ l) (written-pairs cs (drop 2 out) ∙ rw (drop-drop, n) refl)
-
--- ---- positions rise
-
-draw-on : (m b i : ℕ) (ws : List ℕ) (v next : ℕ) → drawFrom m b i ws ≡ Value v next → i ≤ next
-unfolding drawFrom
-draw-on m b i [] v next e = let z : _≡_ {A = ℕ} 0 1 = cc in absurd (omega arith)
-draw-on m b i (w ∷ ws) v next e = go (ltb w (K m b * b)) e (draw-on m b (i + 1) ws v next)
-  where
-    go : (t : Bool) → cond t (Value (w % b) (i + 1)) (drawFrom m b (i + 1) ws) ≡ Value v next → (drawFrom m b (i + 1) ws ≡ Value v next → i + 1 ≤ next) → i ≤ next
-    go true q r = let x : i + 1 ≡ next = cc in omega arith
-    go false q r = omega (arith, r q)
-
-run-on : {A : Type 0} (m : ℕ) (ws : List ℕ) (from : ℕ) (p : Plan A) {vs : List ℕ} {a : A} {next : ℕ} → run m ws from p ≡ finished vs a next → from ≤ next
-unfolding run
-run-on m ws from (done a) {next = next} e = let x : from ≡ next = cc in omega arith
-run-on {A} m ws from (draw b k) {vs} {a} {next} e = go (drawAt m ws from b) refl e (λ v n us y. run-on m ws n (k v) {vs = us} y)
-  where
-    go : (x : Drawn) → drawAt m ws from b ≡ x → follow x (λ v n. run m ws n (k v)) ≡ finished vs a next
-        → ((v n : ℕ) (us : List ℕ) → run m ws n (k v) ≡ finished us a next → n ≤ next) → from ≤ next
-    go (Value v n) h q r = on (run m ws n (k v)) q (r v n)
-      where
-        on : (y : Run A) → drew v y ≡ finished vs a next → ((us : List ℕ) → y ≡ finished us a next → n ≤ next) → from ≤ next
-        on (finished us c l) z t = let w : finished us c l ≡ finished us a next = cc in omega (arith, t us w, draw-on m b from (drop from ws) v n h)
-        on ended z t = let w : _≡_ {A = ℕ} 0 1 = cc in absurd (omega arith)
-    go Short h q r = let z : _≡_ {A = ℕ} 0 1 = cc in absurd (omega arith)
 
 -- ---- what the code gathered
 
@@ -89,29 +61,12 @@ module _ (p : Picks) (start : ℕ) where
 
 -- ---- the panel
 
--- a choice for each round
-panel-count : (ls : List Lift) (ws : List ℕ) (from : ℕ) (rs : List ℕ) (cs : List Choice) (next : ℕ) → panelFrom ls ws from rs ≡ chosen cs next → (length cs ≡ length rs) × (from ≤ next)
-unfolding panelFrom
-panel-count ls ws from [] cs next e = let q : cs ≡ [] = cc in let n : from ≡ next = cc in (ap length q, omega arith)
-panel-count ls ws from (r ∷ rs) cs next e = go (run largest ws from (planOf r ls)) refl e (λ n ds. panel-count ls ws n rs ds next)
-  where
-    behind : (c : Choice) (p : Panel) → preceded c p ≡ chosen cs next → ((ds : List Choice) → p ≡ chosen ds next → length ds ≡ length rs) → length cs ≡ suc (length rs)
-    behind c (chosen ds k) q h =
-        let x : cs ≡ c ∷ ds = cc in
-        let y : chosen ds k ≡ chosen ds next = cc in
-        ap length x ∙ ap suc (h ds y)
-    behind c (short k) q h = let z : _≡_ {A = ℕ} 0 1 = cc in absurd (omega arith)
-
-    later : (c : Choice) (p : Panel) {n : ℕ} → preceded c p ≡ chosen cs next → ((ds : List Choice) → p ≡ chosen ds next → n ≤ next) → n ≤ next
-    later c (chosen ds k) q h = let y : chosen ds k ≡ chosen ds next = cc in h ds y
-    later c (short k) q h = let z : _≡_ {A = ℕ} 0 1 = cc in absurd (omega arith)
-
-    go : (x : Run Selection) → run largest ws from (planOf r ls) ≡ x → andThen r ls x (λ n. panelFrom ls ws n rs) ≡ chosen cs next
-        → ((n : ℕ) (ds : List Choice) → panelFrom ls ws n rs ≡ chosen ds next → (length ds ≡ length rs) × (n ≤ next)) → (length cs ≡ suc (length rs)) × (from ≤ next)
-    go (finished vs s n) h q rest =
-        let c : Choice = record { round = r; number = liftAt r ls (s .place) .number; outcome = outcome (heldIn r ls) s; values = vs } in
-        (behind c (panelFrom ls ws n rs) q (λ ds y. rest n ds y .0), omega (arith, later c (panelFrom ls ws n rs) q (λ ds y. rest n ds y .1), run-on largest ws from (planOf r ls) h))
-    go ended h q rest = let z : _≡_ {A = ℕ} 0 1 = cc in absurd (omega arith)
+-- a choice for each round, and positions rise
+panel-count : {ls : List Lift} {ws : List ℕ} {from next : ℕ} {rs : List ℕ} {cs : List Choice} → Steps ls ws from rs cs next → (length cs ≡ length rs) × (from ≤ next)
+panel-count none = (refl, omega arith)
+panel-count {ls} {ws} {from} (some {r = r} q k) =
+    let c = panel-count k in
+    (ap suc (c .0), omega (arith, c .1, run-between largest ws from (planOf r ls) q .0))
 
 -- ---- the ways out
 
@@ -145,10 +100,10 @@ module _ (ls : List Lift) (ws : List ℕ) (start : ℕ) (out : List ℕ) where
       wrote h = done-output p start (panel ls ws start) d h out ∙ ap (λ x. unlessRefused x out (writtenOf (panel ls ws start) out)) through
 
       pub forward : p .short ≡ 0 → start ≤ p .next
-      forward h = done-next p start (panel ls ws start) d h (λ cs next e. panel-count ls ws start (inUse New ls) cs next e .1)
+      forward h = done-next p start (panel ls ws start) d h (λ cs next e. panel-count (steps ls ws start (inUse New ls) e) .1)
 
       pub counted : p .short ≡ 0 → p .count ≡ length (inUse New ls)
-      counted h = done-count p start (panel ls ws start) (length (inUse New ls)) d h (λ cs next e. panel-count ls ws start (inUse New ls) cs next e .0)
+      counted h = done-count p start (panel ls ws start) (length (inUse New ls)) d h (λ cs next e. panel-count (steps ls ws start (inUse New ls) e) .0)
 
       pub firsts-long : p .short ≡ 0 → p .count ≤ length (p .firsts)
       firsts-long h = omega (arith, counted h, few-rounds ls, done-long p start (panel ls ws start) d h .0)

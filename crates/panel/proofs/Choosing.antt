@@ -31,6 +31,7 @@ use Rattle.panel.specs.Slices.{sendersOf, withTable, heldBy, roundOf, Ev
 use Rattle.panel.specs.declared.Senders.{Senders as Donating}
 use Rattle.panel.specs.declared.Picks.{Picks}
 use Rattle.sheet.proofs.Those.{those-head}
+use Rattle.selection.proofs.Steps.{made}
 use Rattle.selection.proofs.RoundsFit.{Senders, none, one, two, senders, round-fits, round-bounded, round-stands}
 use Rattle.panel.proofs.Lending.{senders-donors, heldBy-of, roundOf-of}
 
@@ -186,7 +187,7 @@ module _ (ls : List Lift) (r : ℕ) (low : 1 ≤ r) (high : r ≤ mostRounds) (r
       → Picked (prefixed cs (andThen r ls x rest)) (goOn (after p r (map (fieldOf Number) (ofRound r ls)) (answer (heldIn r ls) x)) onward)
   unfolding liftAt
   gather-run cs from p g few (finished vs s next) =
-      let c : Choice = record { round = r; number = liftAt r ls (s .place) .number; outcome = outcome (heldIn r ls) s; values = vs } in
+      let c = made r ls vs s in
       let e : getD (map (fieldOf Number) (ofRound r ls)) (s .place) 0 ≡ c .number = List·getD-map (fieldOf Number) (ofRound r ls) (s .place) nobody in
       rw (prefixed-one cs c (rest next), e)
       (ih (cs ++ (c ∷ [])) next (picked p r (c .number) (c .outcome) next) (gathers-one cs from p g (omega arith) c next) (omega arith))

@@ -1,26 +1,23 @@
 -- A run of the whole choice follows, in each round, a path of that round's plan: where the values are a path's, the pair written for
 -- the round has the path's lift and outcome.
 use Prim.Native.Nat.{ℕ, zero, suc, _+_, _*_, _<_}
-use mathlib.Core.Path.{_≡_, refl, ap, _∙_}
+use mathlib.Core.Path.{_≡_, refl, _∙_}
 use mathlib.Core.List.{List, [], _∷_, map, List·Memᴰ}
 use native.Mathlib.Omega.{arith}
 use lib.ListN.{length, getD, drop}
 use lib.Seq.{slice}
 use Rattle.laws.specs.Plan.{Path, paths}
 use Rattle.draw.specs.Draw.{largest}
-use Rattle.draw.specs.Run.{Run, finished, short as ended, run}
+use Rattle.draw.specs.Run.{finished, run}
 use Rattle.draw.proofs.Runs.{follows}
 use Rattle.round.specs.Choice.{Selection, outcome}
 use Rattle.sheet.specs.Sheet.{Lift, lifts}
 use Rattle.sheet.specs.Rounds.{inUse}
 use Rattle.sheet.specs.declared.Side.the-variants.{New}
-use Rattle.selection.specs.Choice.{heldIn, planOf, liftAt, Choice, Panel, chosen, short, preceded, andThen, panelFrom, panel, replied, reply, pair, written, output}
+use Rattle.selection.specs.Choice.{heldIn, planOf, liftAt, Choice, chosen, panel, replied, reply, pair, written, output}
 use Rattle.selection.specs.Fair.{draws}
 use Rattle.selection.proofs.Replies.{ran}
-
--- what a finished run of round r chooses
-abbrev made : ℕ → List Lift → List ℕ → Selection → Choice
-made r ls vs s = record { round = r; number = liftAt r ls (s .place) .number; outcome = outcome (heldIn r ls) s; values = vs }
+use Rattle.selection.proofs.Steps.{made, Steps, none, some, steps}
 
 -- the pair of a finished run of round r
 abbrev pub pairFor : ℕ → List Lift → Selection → List ℕ
@@ -42,37 +39,20 @@ slice-behind c cs out i =
     let b : 2 * suc i + 2 ≡ suc (suc (2 * i + 2)) = omega arith in
     rw (b, a)
 
-come : (ls : List Lift) (ws : List ℕ) (from : ℕ) (rs : List ℕ) (next : ℕ) (cs : List Choice) → panelFrom ls ws from rs ≡ chosen cs next
-    → (i : ℕ) → i < length rs → Comes ls ws cs i (getD rs i 0)
-unfolding panelFrom written
-come ls ws from [] next cs e i h = absurd (omega arith)
-come ls ws from (r ∷ rs) next cs e i h = go (run largest ws from (planOf r ls)) refl e (λ n ds. come ls ws n rs next ds)
-  where
-    at : (vs : List ℕ) (s : Selection) (n : ℕ) → run largest ws from (planOf r ls) ≡ finished vs s n → (ds : List Choice)
-        → ((j : ℕ) → j < length rs → Comes ls ws ds j (getD rs j 0)) → (i : ℕ) → i < suc (length rs) → Comes ls ws (made r ls vs s ∷ ds) i (getD (r ∷ rs) i 0)
-    at vs s n q ds rest zero l = record { from = from; next = n; result = s; drew = q; wrote = λ out. refl }
-    at vs s n q ds rest (suc i) l =
-        let k = rest i (omega arith) in
-        record {
-          from = k .from;
-          next = k .next;
-          result = k .result;
-          drew = k .drew;
-          wrote = λ out. slice-behind (made r ls vs s) ds out i ∙ k .wrote (drop 2 out);
-        }
-
-    behind : (vs : List ℕ) (s : Selection) (n : ℕ) → run largest ws from (planOf r ls) ≡ finished vs s n → (p : Panel) → preceded (made r ls vs s) p ≡ chosen cs next
-        → ((ds : List Choice) → p ≡ chosen ds next → (j : ℕ) → j < length rs → Comes ls ws ds j (getD rs j 0)) → Comes ls ws cs i (getD (r ∷ rs) i 0)
-    behind vs s n q (chosen ds k) x rest =
-        let y : cs ≡ made r ls vs s ∷ ds = cc in
-        let z : k ≡ next = cc in
-        rw y (at vs s n q ds (rest ds (ap (chosen ds) z)) i h)
-    behind vs s n q (short k) x rest = let z : _≡_ {A = ℕ} 0 1 = cc in absurd (omega arith)
-
-    go : (x : Run Selection) → run largest ws from (planOf r ls) ≡ x → andThen r ls x (λ n. panelFrom ls ws n rs) ≡ chosen cs next
-        → ((n : ℕ) (ds : List Choice) → panelFrom ls ws n rs ≡ chosen ds next → (j : ℕ) → j < length rs → Comes ls ws ds j (getD rs j 0)) → Comes ls ws cs i (getD (r ∷ rs) i 0)
-    go (finished vs s n) q x rest = behind vs s n q (panelFrom ls ws n rs) x (rest n)
-    go ended q x rest = let z : _≡_ {A = ℕ} 0 1 = cc in absurd (omega arith)
+come : (ls : List Lift) (ws : List ℕ) {from next : ℕ} {rs : List ℕ} {cs : List Choice} → Steps ls ws from rs cs next → (i : ℕ) → i < length rs
+    → Comes ls ws cs i (getD rs i 0)
+unfolding written
+come ls ws none i h = absurd (omega arith)
+come ls ws (some {from = from} {n = n} {s = s} q k) zero h = record { from = from; next = n; result = s; drew = q; wrote = λ out. refl }
+come ls ws (some {r = r} {cs = cs} {vs = vs} {s = s} q k) (suc i) h =
+    let c = come ls ws k i (omega arith) in
+    record {
+      from = c .from;
+      next = c .next;
+      result = c .result;
+      drew = c .drew;
+      wrote = λ out. slice-behind (made r ls vs s) cs out i ∙ c .wrote (drop 2 out);
+    }
 
 -- and so it has the lift and the outcome of the path that has its values
 pub carries : (sheet : List ℕ) {ls : List Lift} → lifts sheet ≡ ls → (ws : List ℕ) (start : ℕ) (out : List ℕ) {n k : ℕ}
@@ -83,7 +63,7 @@ unfolding output
 carries sheet {ls} b ws start out e i h {r} a p d v =
     let x = ran sheet ws start (length out) e in
     let is : panel ls ws start ≡ chosen (x .choices) (x .next) = rw (← b) (x .is) in
-    let c : Comes ls ws (x .choices) i r = rw a at (come ls ws start (inUse New ls) (x .next) (x .choices) is i h) in
+    let c : Comes ls ws (x .choices) i r = rw a at (come ls ws (steps ls ws start (inUse New ls) is) i h) in
     let vs : getD (map (λ c. c .values) (x .choices)) i [] ≡ p .values = rw is at v in
     let drew : run largest ws (c .from) (planOf r ls) ≡ finished (p .values) (c .result) (c .next) = rw (← vs) (c .drew) in
     let same : p .result ≡ c .result = follows largest (planOf r ls) .result ws (c .from) (c .next) (c .result) p d drew in

@@ -9,6 +9,7 @@ pub mod MarkedFits
 pub mod RoundsFit
 pub mod Weighing
 pub mod Replies
+pub mod Steps
 pub mod Following
 pub mod Fair
 pub mod Worked

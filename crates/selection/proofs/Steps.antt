@@ -1,0 +1,41 @@
+-- A panel that was chosen, step by step: each choice comes from a finished run of its round's plan, where the one before stopped.
+use Prim.Native.Nat.{ℕ}
+use mathlib.Core.Path.{_≡_, refl, ap}
+use mathlib.Core.List.{List, [], _∷_}
+use native.Mathlib.Omega.{arith}
+use Rattle.draw.specs.Draw.{largest}
+use Rattle.draw.specs.Run.{Run, finished, short as ended, run}
+use Rattle.round.specs.Choice.{Selection, outcome}
+use Rattle.sheet.specs.Sheet.{Lift}
+use Rattle.selection.specs.Choice.{heldIn, planOf, liftAt, Choice, Panel, chosen, short, preceded, andThen, panelFrom}
+
+-- what a finished run of round r chooses
+abbrev pub made : ℕ → List Lift → List ℕ → Selection → Choice
+made r ls vs s = record { round = r; number = liftAt r ls (s .place) .number; outcome = outcome (heldIn r ls) s; values = vs }
+
+-- the choices of some rounds, from a position to the next
+pub data Steps (ls : List Lift) (ws : List ℕ) : ℕ → List ℕ → List Choice → ℕ → Type 0 where
+  none : {from : ℕ} → Steps ls ws from [] [] from
+  some : {from n next r : ℕ} {rs : List ℕ} {cs : List Choice} {vs : List ℕ} {s : Selection} → run largest ws from (planOf r ls) ≡ finished vs s n
+      → Steps ls ws n rs cs next → Steps ls ws from (r ∷ rs) (made r ls vs s ∷ cs) next
+
+pub steps : (ls : List Lift) (ws : List ℕ) (from : ℕ) (rs : List ℕ) {cs : List Choice} {next : ℕ} → panelFrom ls ws from rs ≡ chosen cs next → Steps ls ws from rs cs next
+unfolding panelFrom
+steps ls ws from [] {cs} {next} e =
+    let x : cs ≡ [] = cc in
+    let y : next ≡ from = cc in
+    rw (x, y) none
+steps ls ws from (r ∷ rs) {cs} {next} e = go (run largest ws from (planOf r ls)) refl e (λ n ds. steps ls ws n rs {cs = ds})
+  where
+    behind : (vs : List ℕ) (s : Selection) (n : ℕ) → run largest ws from (planOf r ls) ≡ finished vs s n → (p : Panel) → preceded (made r ls vs s) p ≡ chosen cs next
+        → ((ds : List Choice) → p ≡ chosen ds next → Steps ls ws n rs ds next) → Steps ls ws from (r ∷ rs) cs next
+    behind vs s n q (chosen ds k) x rest =
+        let y : cs ≡ made r ls vs s ∷ ds = cc in
+        let z : k ≡ next = cc in
+        rw y (some q (rest ds (ap (chosen ds) z)))
+    behind vs s n q (short k) x rest = let z : _≡_ {A = ℕ} 0 1 = cc in absurd (omega arith)
+
+    go : (x : Run Selection) → run largest ws from (planOf r ls) ≡ x → andThen r ls x (λ n. panelFrom ls ws n rs) ≡ chosen cs next
+        → ((n : ℕ) (ds : List Choice) → panelFrom ls ws n rs ≡ chosen ds next → Steps ls ws n rs ds next) → Steps ls ws from (r ∷ rs) cs next
+    go (finished vs s n) q x rest = behind vs s n q (panelFrom ls ws n rs) x (rest n)
+    go ended q x rest = let z : _≡_ {A = ℕ} 0 1 = cc in absurd (omega arith)
