@@ -8,7 +8,6 @@ use lib.ListN.{length, take, drop}
 use lib.Seq.{drop-drop}
 use borrow.Author.Tests.{lt-ltb, le-ltb}
 use Rattle.draw.specs.Draw.{largest}
-use Rattle.draw.specs.Run.{finished, short as ended}
 use Rattle.draw.proofs.Positions.{run-between}
 use Rattle.sheet.specs.Sheet.{mostRounds, Lift, lifts}
 use Rattle.sheet.specs.Reading.{Numbered, numbered}

@@ -16,7 +16,7 @@ use Rattle.round.specs.Share.{Initial, here, elsewhere}
 use Rattle.sheet.specs.Sheet.{mostRounds, Lift}
 use Rattle.sheet.specs.Rounds.{those, sends, donors}
 use Rattle.sheet.specs.Tables.{bits}
-use Rattle.sheet.proofs.Those.{those-ext, those-head, from, from-step, from-none}
+use Rattle.sheet.proofs.Those.{those-ext, those-head, from, Sought, sought-here, sought-end}
 use Rattle.selection.specs.Choice.{donorNumber, further, heldAt, heldAmong}
 use Rattle.panel.specs.Slices.{bitAt, first, sendersOf, numberOf, heldPlace, heldBy, roundOf, Even}
 use Rattle.panel.specs.declared.Senders.the-variants.{None, One, Two}
@@ -95,26 +95,13 @@ roundOf-of ds (l ∷ us) = rw (number-of ds (l .old .round), roundOf-of ds us)
 
 -- ---- the first round from a number up whose bit is set
 
--- the first from a number up is the first from t up
-pub record Sought (p : ℕ → Bool) (start t : ℕ) : Type 0 where
-  pub same : first (from p t) ≡ first (from p start)
+-- a search finds the first from a number up, or none
+module _ {p : ℕ → Bool} {start t : ℕ} where
+  pub found : {x : Bool} → Sought p start t → t ≤ mostRounds → x ≡ p t → x ≡ true → At t ≡ first (from p start)
+  found s h e q = ap first (sought-here s h e q)
 
--- at first
-pub sought-none : (p : ℕ → Bool) (start : ℕ) → Sought p start start
-sought-none p start = record { same = refl }
-
-module _ {p : ℕ → Bool} {start t : ℕ} {x : Bool} (s : Sought p start t) (h : t ≤ mostRounds) (e : x ≡ p t) where
-  -- round t is it
-  pub sought-here : x ≡ true → At t ≡ first (from p start)
-  sought-here q = rw (from-step p t h, ← e, q) at (s .same)
-
-  -- it comes later
-  pub sought-turn : x ≡ false → Sought p start (t + 1)
-  sought-turn q = record { same = rw (from-step p t h, ← e, q) at (s .same) }
-
--- there is none
-pub sought-end : {p : ℕ → Bool} {start t : ℕ} → mostRounds < t → Sought p start t → Nothing ≡ first (from p start)
-sought-end {p} {start} {t} h s = rw (from-none p t h) at (s .same)
+  pub missed : mostRounds < t → Sought p start t → Nothing ≡ first (from p start)
+  missed h s = ap first (sought-end h s)
 
 -- ---- the first two
 

@@ -1,7 +1,7 @@
 -- The rounds that pass a test, as the loops go through them: what the rounds from r up give is what is still to be found.
 use Prim.Native.Nat.{ℕ, _+_, _≤_, _<_}
-use mathlib.Core.Path.{_≡_, refl, ap}
-use mathlib.Core.Bool.{Bool, true, false}
+use mathlib.Core.Path.{_≡_, ap}
+use mathlib.Core.Bool.{Bool, true}
 use native.Mathlib.Omega.{arith}
 use lib.ListN.{length}
 use Rattle.laws.specs.Sum.{indicator}
@@ -10,24 +10,15 @@ use Rattle.sheet.specs.Sheet.{mostRounds}
 use Rattle.sheet.specs.Rounds.{rounds}
 use Rattle.sheet.specs.Tables.{first}
 use Rattle.sheet.specs.declared.Found.the-variants.{At, Nothing}
-use Rattle.sheet.proofs.Those.{from, from-step, from-none}
+use Rattle.sheet.proofs.Those.{from, from-step, from-none, Sought, sought-here, sought-end}
 
--- a search: the first round that passes is the first from r up
-pub record Sought (p : ℕ → Bool) (r : ℕ) : Type 0 where
-  pub same : first (from p r) ≡ first (rounds p)
+-- a search finds the first round that passes, or none
+module _ {p : ℕ → Bool} {r : ℕ} where
+  pub found : {t : Bool} → Sought p 1 r → r ≤ mostRounds → t ≡ p r → t ≡ true → At r ≡ first (rounds p)
+  found d h e q = ap first (sought-here d h e q)
 
-pub sought-none : (p : ℕ → Bool) → Sought p 1
-sought-none p = record { same = refl }
-
-module _ {p : ℕ → Bool} {r : ℕ} {t : Bool} (d : Sought p r) (h : r ≤ mostRounds) (e : t ≡ p r) where
-  pub sought-here : t ≡ true → At r ≡ first (rounds p)
-  sought-here q = rw (from-step p r h, ← e, q) at (d .same)
-
-  pub sought-turn : t ≡ false → Sought p (r + 1)
-  sought-turn q = record { same = rw (from-step p r h, ← e, q) at (d .same) }
-
-pub sought-end : {p : ℕ → Bool} {r : ℕ} → mostRounds < r → Sought p r → Nothing ≡ first (rounds p)
-sought-end {p} {r} h d = rw (from-none p r h) at (d .same)
+  pub missed : mostRounds < r → Sought p 1 r → Nothing ≡ first (rounds p)
+  missed h d = ap first (sought-end h d)
 
 -- a count: the rounds counted and those from r up are all
 pub record Counted (p : ℕ → Bool) (n r : ℕ) : Type 0 where

@@ -15,6 +15,7 @@ use Rattle.laws.proofs.Sums.{over-ext, length-cond, totalBy-none}
 use Rattle.sheet.specs.Sheet.{mostRounds}
 use Rattle.sheet.specs.Rounds.{those}
 
+-- tests that agree give the same numbers
 pub those-ext : (a n : ℕ) {p q : ℕ → Bool} → ((t : ℕ) → a ≤ t → t < a + n → p t ≡ q t) → those p a n ≡ those q a n
 unfolding those
 those-ext a zero h = refl
@@ -158,3 +159,23 @@ unfolding those
 from-none p r h =
     let e : mostRounds + 1 - r ≡ 0 = omega arith in
     rw e
+
+-- a search from a number up: what passes from t up is all that passes
+pub record Sought (p : ℕ → Bool) (start t : ℕ) : Type 0 where
+  pub same : from p t ≡ from p start
+
+pub sought-none : (p : ℕ → Bool) (start : ℕ) → Sought p start start
+sought-none p start = record { same = refl }
+
+module _ {p : ℕ → Bool} {start t : ℕ} {x : Bool} (s : Sought p start t) (h : t ≤ mostRounds) (e : x ≡ p t) where
+  -- t is the first
+  pub sought-here : x ≡ true → t ∷ from p (t + 1) ≡ from p start
+  sought-here q = rw (from-step p t h, ← e, q) at (s .same)
+
+  -- the first comes later
+  pub sought-turn : x ≡ false → Sought p start (t + 1)
+  sought-turn q = record { same = rw (from-step p t h, ← e, q) at (s .same) }
+
+-- there is none
+pub sought-end : {p : ℕ → Bool} {start t : ℕ} → mostRounds < t → Sought p start t → [] ≡ from p start
+sought-end {p} {start} {t} h s = rw (from-none p t h) at (s .same)

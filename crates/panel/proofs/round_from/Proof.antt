@@ -3,7 +3,8 @@ use Prim.Native.Nat.{_+_, _-_}
 use borrow.Author.Needs.{needs}
 use Rattle.sheet.specs.Sheet.{mostRounds}
 use Rattle.panel.specs.Slices.{bitAt}
-use Rattle.panel.proofs.Lending.{Sought, sought-none, sought-here, sought-turn, sought-end}
+use Rattle.sheet.proofs.Those.{Sought, sought-none, sought-turn}
+use Rattle.panel.proofs.Lending.{found, missed}
 use Rattle.panel.proofs.round_from.Statement.{statement}
 use Rattle.panel.proofs.round_from.Tie as tie
 
@@ -20,7 +21,7 @@ bit-requires : tie.Need-bit-requires Inv-loop μ-loop
 bit-requires c κs = search needs
 
 returns : tie.Need-returns Inv-loop μ-loop
-returns c = search sought-here
+returns c = search found
 
 add-t : tie.Need-add-t Inv-loop μ-loop
 add-t c = search needs
@@ -32,7 +33,7 @@ loop-again : tie.Need-loop-again Inv-loop μ-loop
 loop-again c = search sought-turn
 
 returns-2 : tie.Need-returns-2 Inv-loop μ-loop
-returns-2 c = search sought-end
+returns-2 c = search missed
 
 pub round-from-spec : {M : Type 1} → statement M
 round-from-spec =

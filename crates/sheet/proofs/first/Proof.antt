@@ -3,19 +3,20 @@ use Prim.Native.Nat.{_+_, _-_}
 use lib.ListN.{getD}
 use Rattle.sheet.specs.Sheet.{mostRounds}
 use Rattle.sheet.specs.Tables.{breaks}
-use Rattle.sheet.proofs.Searches.{Sought, sought-none, sought-here, sought-turn, sought-end}
+use Rattle.sheet.proofs.Those.{Sought, sought-none, sought-turn}
+use Rattle.sheet.proofs.Searches.{found, missed}
 use borrow.Author.Needs.{needs}
 use Rattle.sheet.proofs.first.Statement.{statement}
 use Rattle.sheet.proofs.first.Tie as tie
 
 abbrev Inv-loop : tie.InvT-loop
-Inv-loop rule a b r₀ r = Sought (λ t. breaks rule (getD a t 0) (getD b t 0)) r
+Inv-loop rule a b r₀ r = Sought (λ t. breaks rule (getD a t 0) (getD b t 0)) 1 r
 
 abbrev μ-loop : tie.MeasureT-loop
 μ-loop rule a b r₀ r = mostRounds + 1 - r
 
 loop-holds : tie.Need-loop-holds Inv-loop μ-loop
-loop-holds c = sought-none _
+loop-holds c = sought-none _ _
 
 mul-breaks : tie.Need-mul-breaks Inv-loop μ-loop
 mul-breaks c = search needs
@@ -33,7 +34,7 @@ breaks-requires : tie.Need-breaks-requires Inv-loop μ-loop
 breaks-requires c κs = search needs
 
 returns : tie.Need-returns Inv-loop μ-loop
-returns c = search sought-here
+returns c = search found
 
 add-r : tie.Need-add-r Inv-loop μ-loop
 add-r c = search needs
@@ -45,7 +46,7 @@ loop-again : tie.Need-loop-again Inv-loop μ-loop
 loop-again c = search sought-turn
 
 returns-2 : tie.Need-returns-2 Inv-loop μ-loop
-returns-2 c = search sought-end
+returns-2 c = search missed
 
 pub first-spec : {M : Type 1} → statement M
 first-spec =
