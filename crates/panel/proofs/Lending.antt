@@ -15,13 +15,13 @@ use Rattle.round.specs.Slices.{lift, lifts, Level}
 use Rattle.round.specs.Share.{Initial, here, elsewhere}
 use Rattle.sheet.specs.Sheet.{mostRounds, Lift}
 use Rattle.sheet.specs.Rounds.{those, sends, donors}
-use Rattle.sheet.specs.Tables.{bits}
+use Rattle.sheet.specs.Tables.{bits, first}
 use Rattle.sheet.proofs.Those.{those-ext, those-head, from, Sought, sought-here, sought-end}
 use Rattle.selection.specs.Choice.{donorNumber, further, heldAt, heldAmong}
-use Rattle.panel.specs.Slices.{bitAt, first, sendersOf, numberOf, heldPlace, heldBy, roundOf, Even}
+use Rattle.panel.specs.Slices.{bitAt, sendersOf, numberOf, heldPlace, heldBy, roundOf, Even}
 use Rattle.panel.specs.declared.Senders.the-variants.{None, One, Two}
-use Rattle.panel.specs.declared.Found.{Found}
-use Rattle.panel.specs.declared.Found.the-variants.{At, Nothing}
+use Rattle.sheet.specs.declared.Found.{Found}
+use Rattle.sheet.specs.declared.Found.the-variants.{At, Nothing}
 
 -- ---- bits
 

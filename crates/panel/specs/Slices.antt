@@ -1,5 +1,5 @@
 -- A round of a sheet lent as slices of numbers, and the choices as the code gathers them.
-use Prim.Native.Nat.{ℕ, zero, suc, _+_, _*_, _/_, _%_, _-_, _^_, _≤_, _<_}
+use Prim.Native.Nat.{ℕ, zero, suc, _+_, _/_, _%_, _-_, _^_, _≤_, _<_}
 use mathlib.Core.Path.{_≡_}
 use mathlib.Core.Bool.{Bool, cond, _&&_}
 use mathlib.Core.List.{List, [], _∷_, map}
@@ -15,27 +15,22 @@ use Rattle.round.specs.declared.Held.the-variants.{Neither}
 use Rattle.round.specs.Choice.{selected}
 use Rattle.round.specs.declared.Selected.{Selected}
 use Rattle.round.specs.declared.Selected.the-variants.{At as AtPlace, Short}
-use Rattle.sheet.specs.Sheet.{mostRounds, word}
+use Rattle.sheet.specs.Sheet.{mostRounds}
 use Rattle.sheet.specs.Reading.{numbered}
 use Rattle.sheet.specs.Rounds.{those}
 use Rattle.sheet.specs.Refusal.{refusal as refusalOf}
-use Rattle.selection.specs.Choice.{further, Choice, Panel, chosen, short, Reply, refusal, replied}
+use Rattle.sheet.specs.declared.Found.{Found}
+use Rattle.sheet.specs.declared.Found.the-variants.{At, Nothing}
+use Rattle.selection.specs.Choice.{further, Choice, Panel, chosen, short, Reply, refusal, replied, roundWord, liftWord}
 use Rattle.panel.specs.declared.Senders.{Senders}
 use Rattle.panel.specs.declared.Senders.the-variants.{None, One, Two}
 use Rattle.panel.specs.declared.Picks.{Picks}
 use Rattle.panel.specs.declared.Answer.{Answer}
 use Rattle.panel.specs.declared.Answer.the-variants.{Sheet, Start, Output, Words, Chosen}
-use Rattle.panel.specs.declared.Found.{Found}
-use Rattle.panel.specs.declared.Found.the-variants.{At, Nothing}
 
 -- whether bit t is set in two words of 64 bits
 abbrev pub bitAt : ℕ → ℕ → ℕ → Bool
 bitAt low high t = eqb (cond (ltb t 64) (low / 2 ^ t) (high / 2 ^ (t - 64)) % 2) 1
-
--- the first of some numbers, if there is one
-abbrev pub first : List ℕ → Found
-first [] = Nothing
-first (t ∷ ts) = At t
 
 -- the first two of some old rounds
 abbrev pub sendersOf : List ℕ → Senders
@@ -156,8 +151,8 @@ abbrev pub picked : Picks → ℕ → ℕ → ℕ → ℕ → Picks
 picked p r n o next =
     record {
       count = p .count + 1;
-      firsts = set (p .firsts) (p .count) (word 5 (r * 2 ^ 21 + o));
-      seconds = set (p .seconds) (p .count) (word 6 n);
+      firsts = set (p .firsts) (p .count) (roundWord r o);
+      seconds = set (p .seconds) (p .count) (liftWord n);
       next = next;
       short = 0;
     }
@@ -187,10 +182,10 @@ noPicks start = record { count = 0; firsts = replicate mostRounds 0; seconds = r
 
 -- the two words of each choice
 abbrev pub firstWord : Choice → ℕ
-firstWord c = word 5 (c .round * 2 ^ 21 + c .outcome)
+firstWord c = roundWord (c .round) (c .outcome)
 
 abbrev pub secondWord : Choice → ℕ
-secondWord c = word 6 (c .number)
+secondWord c = liftWord (c .number)
 
 -- the code's choices are those of the panel
 pub record Gathers (cs : List Choice) (behind : ℕ) (p : Picks) : Type 0 where

@@ -8,17 +8,18 @@ ghost use Rattle.round.specs.Share.{heldOf};
 ghost use Rattle.round.specs.Slices.{Callable};
 ghost use Rattle.sheet.specs.Sheet.{mostLifts, mostRounds, lifts as liftsOfSheet};
 ghost use Rattle.sheet.specs.Reading.{Legible};
-ghost use Rattle.sheet.specs.Tables.{fieldOf, startsOf, ByRound};
+ghost use Rattle.sheet.specs.Tables.{fieldOf, startsOf, ByRound, first};
 ghost use Rattle.sheet.specs.Rounds.{those, inUse};
 ghost use Rattle.sheet.specs.Law.{Fitting};
 ghost use Rattle.selection.specs.Choice.{panel as panelOf, ofLent, writtenOf, unlessRefused, reply, output};
 ghost use Rattle.selection.specs.Fair.{Fair};
-ghost use Rattle.panel.specs.Slices.{bitAt, first, sendersOf, numberOf as numberFor, withTable, heldPlace, initialOf, heldBy, roundOf, Even, Within, lent, Ready, Room, Small, picked, after, stepped, steppedFrom, noPicks, pairs, Picked, told};
+ghost use Rattle.panel.specs.Slices.{bitAt, sendersOf, numberOf as numberFor, withTable, heldPlace, initialOf, heldBy, roundOf, Even, Within, lent, Ready, Room, Small, picked, after, stepped, steppedFrom, noPicks, pairs, Picked, told};
 use round::Donors;
 use round::Held;
 use round::Selected;
 use sheet::Checked;
 use sheet::Field;
+use sheet::Found;
 use sheet::Refusal;
 use sheet::Sheet;
 use sheet::Side;
@@ -54,12 +55,6 @@ enum Senders {
     Two(u64, u64),
 }
 
-// A number that is looked for.
-enum Found {
-    At(u64),
-    Nothing,
-}
-
 // ---- one round
 
 // Whether bit t is set in two words.
@@ -80,7 +75,7 @@ fn round_from(low: u64, high: u64, from: u64) -> Found
     let mut t = from;
     while t <= Sheet::MOST_ROUNDS as u64 {
         if bit(low, high, t) {
-            return Found::At(t);
+            return Found::At(t as usize);
         }
         t += 1;
     }
@@ -93,9 +88,9 @@ fn senders_of(low: u64, high: u64) -> Senders
 {
     match round_from(low, high, 1) {
         Found::Nothing => Senders::None,
-        Found::At(d) => match round_from(low, high, d + 1) {
-            Found::Nothing => Senders::One(d),
-            Found::At(e) => Senders::Two(d, e),
+        Found::At(d) => match round_from(low, high, d as u64 + 1) {
+            Found::Nothing => Senders::One(d as u64),
+            Found::At(e) => Senders::Two(d as u64, e as u64),
         },
     }
 }
@@ -156,7 +151,7 @@ fn held_place(t: u64, old_round: &[u64], held: &[u64]) -> Found
     let mut i = 0;
     while i < old_round.len() {
         if held[i] == 1 && old_round[i] == t {
-            return Found::At(i as u64);
+            return Found::At(i);
         }
         i += 1;
     }
@@ -170,11 +165,11 @@ fn held_of(a: Found, b: Found) -> Held
     match a {
         Found::Nothing => match b {
             Found::Nothing => Held::Neither,
-            Found::At(j) => Held::Single(j as usize),
+            Found::At(j) => Held::Single(j),
         },
         Found::At(i) => match b {
-            Found::Nothing => Held::Single(i as usize),
-            Found::At(j) => Held::Both(i as usize, j as usize),
+            Found::Nothing => Held::Single(i),
+            Found::At(j) => Held::Both(i, j),
         },
     }
 }

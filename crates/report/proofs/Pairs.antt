@@ -6,9 +6,9 @@ use native.Mathlib.Omega.{arith}
 use lib.ListN.{length, getD, take, drop, length-drop}
 use lib.Seq.{drop-cons}
 use Rattle.laws.proofs.Lists.{All}
-use Rattle.sheet.specs.Sheet.{payload, placeOf, word}
+use Rattle.sheet.specs.Sheet.{payload, placeOf}
 use Rattle.sheet.proofs.Trips.{payload-word}
-use Rattle.selection.specs.Choice.{Choice, written}
+use Rattle.selection.specs.Choice.{Choice, roundWord, written}
 use Rattle.report.specs.Report.{line, lines, pairLines}
 use Rattle.report.proofs.Choices.{Printable}
 
@@ -43,13 +43,13 @@ no-pair ws k h = few (drop (2 * k) ws) (rw length-drop (omega arith))
 
 -- what a choice's pair tells
 module _ (c : Choice) (p : Printable c) where
-  first-payload : payload (word 5 (c .round * 2 ^ 21 + c .outcome)) ≡ c .round * 2 ^ 21 + c .outcome
+  first-payload : payload (roundWord (c .round) (c .outcome)) ≡ c .round * 2 ^ 21 + c .outcome
   first-payload = payload-word 5 (c .round * 2 ^ 21 + c .outcome) (omega (arith, p .round, p .outcome))
 
-  round-told : placeOf (word 5 (c .round * 2 ^ 21 + c .outcome)) .round ≡ c .round
+  round-told : placeOf (roundWord (c .round) (c .outcome)) .round ≡ c .round
   round-told = rw first-payload (omega (arith, p .outcome))
 
-  outcome-told : placeOf (word 5 (c .round * 2 ^ 21 + c .outcome)) .measure ≡ c .outcome
+  outcome-told : placeOf (roundWord (c .round) (c .outcome)) .measure ≡ c .outcome
   outcome-told = rw first-payload (omega (arith, p .outcome))
 
 -- the lines of the pairs that are written are the lines of the choices

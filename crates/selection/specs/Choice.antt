@@ -136,9 +136,17 @@ ofVerdict (fits n k) ls ws start room = ofLent ls k ws start room
 unfoldable pub reply : List ℕ → List ℕ → ℕ → ℕ → Reply
 reply sheet ws start room = ofVerdict (verdict sheet) (lifts sheet) ws start room
 
--- "kind 5 (upper 7 bits round, lower 21 outcome), kind 6 (lift number)"
+-- "kind 5 (upper 7 bits round, lower 21 outcome)"
+abbrev pub roundWord : ℕ → ℕ → ℕ
+roundWord round outcome = word 5 (round * 2 ^ 21 + outcome)
+
+-- "kind 6 (lift number)"
+abbrev pub liftWord : ℕ → ℕ
+liftWord number = word 6 number
+
+-- "The output holds two words a round"
 abbrev pub pair : ℕ → ℕ → ℕ → List ℕ
-pair round number outcome = word 5 (round * 2 ^ 21 + outcome) ∷ word 6 number ∷ []
+pair round number outcome = roundWord round outcome ∷ liftWord number ∷ []
 
 abbrev pub pairOf : Choice → List ℕ
 pairOf c = pair (c .round) (c .number) (c .outcome)

@@ -179,8 +179,8 @@ enum Rule {
     Crowded,
 }
 
-// A round that is looked for.
-enum Found {
+// A round or a place that is looked for.
+pub enum Found {
     At(usize),
     Nothing,
 }
