@@ -5,11 +5,11 @@ use mathlib.Core.Bool.{true, false}
 use mathlib.Core.List.{List}
 use Rattle.draw.specs.declared.Drawn.{Drawn}
 use Rattle.draw.specs.declared.Drawn.the-variants.{Value, Short}
-use Rattle.round.specs.Round.{Lift}
 use Rattle.round.specs.Choice.{selected}
 use Rattle.round.specs.Slices.{Callable}
 use Rattle.round.specs.declared.Donors.{Donors}
 use Rattle.round.specs.declared.Held.{Held}
+use Rattle.round.specs.declared.Lift.{Lift}
 use Rattle.round.specs.declared.Selected.{Selected}
 use Rattle.round.specs.declared.Selected.the-variants.{At, Short as Ended}
 use Rattle.sheet.specs.Reading.{Numbered}

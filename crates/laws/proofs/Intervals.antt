@@ -2,10 +2,10 @@
 use Prim.Native.Nat.{ℕ, zero, suc, _+_, _*_, _-_, _≤_, _<_}
 use mathlib.Core.Path.{_≡_, refl, ap, ap₂, _∙_}
 use mathlib.Core.Bool.{Bool, true, false, cond}
-use mathlib.Core.List.{List, [], _∷_}
-use native.Mathlib.Nat.{add-sub-cancel-left}
+use mathlib.Core.List.{List, [], _∷_, map}
+use native.Mathlib.Nat.{add-sub-cancel-left, zero-add, suc-add, sub-zero}
 use native.Mathlib.Omega.{arith}
-use lib.ListN.{length, getD}
+use lib.ListN.{length, getD, take, drop}
 use lib.Dec.{ltb, eqb}
 use borrow.Author.Tests.{lt-ltb, le-ltb, ltb-true, ltb-false}
 use Rattle.laws.specs.Sum.{over, Σ, total, indicator}
@@ -19,6 +19,29 @@ pick-here w ws q h = rw (lt-ltb q w h)
 pub pick-beyond : (w : ℕ) (ws : List ℕ) (q : ℕ) → w ≤ q → pick (w ∷ ws) q ≡ suc (pick ws (q - w))
 unfolding pick
 pick-beyond w ws q h = rw (le-ltb q w h)
+
+-- where the weights of the first k reach beyond q, only they count
+pub pick-within : {A : Type 0} (f : A → ℕ) (k : ℕ) (xs : List A) (q : ℕ) → q < total (map f (take k xs)) → pick (map f xs) q ≡ pick (map f (take k xs)) q
+unfolding total pick
+pick-within f zero xs q h = absurd (omega arith)
+pick-within f (suc k) [] q h = refl
+pick-within f (suc k) (x ∷ xs) q h = go (ltb q (f x)) refl (pick-within f k xs (q - f x))
+  where
+    go : (b : Bool) → ltb q (f x) ≡ b → (q - f x < total (map f (take k xs)) → pick (map f xs) (q - f x) ≡ pick (map f (take k xs)) (q - f x))
+        → cond b 0 (suc (pick (map f xs) (q - f x))) ≡ cond b 0 (suc (pick (map f (take k xs)) (q - f x)))
+    go true e r = refl
+    go false e r = let l = ltb-false q (f x) e in ap suc (r (omega arith))
+
+-- where they do not, what they leave of q falls in the rest
+pub pick-past : {A : Type 0} (f : A → ℕ) (k : ℕ) (xs : List A) (q : ℕ) → k ≤ length xs → total (map f (take k xs)) ≤ q
+    → pick (map f xs) q ≡ k + pick (map f (drop k xs)) (q - total (map f (take k xs)))
+unfolding total
+pick-past f zero xs q n h = rw (zero-add, sub-zero)
+pick-past f (suc k) [] q n h = absurd (omega arith)
+pick-past f (suc k) (x ∷ xs) q n h =
+    let t = total (map f (take k xs)) in
+    let same : q - f x - t ≡ q - (f x + t) = omega arith in
+    rw (pick-beyond (f x) (map f xs) q (omega arith), pick-past f k xs (q - f x) (omega arith) (omega arith), same, suc-add)
 
 falls : (ws : List ℕ) (q : ℕ) → q < total ws → Falls ws q (pick ws q)
 unfolding total

@@ -5,7 +5,7 @@ use mathlib.Core.Bool.{Bool, true, false, cond}
 use mathlib.Core.List.{List, [], _∷_, map, List·Memᴰ·head, List·Memᴰ·tail}
 use native.Mathlib.Nat.{add-assoc, add-comm, suc-add, zero-add, mul-one, mul-zero, zero-mul, suc-mul}
 use native.Mathlib.Omega.{arith}
-use lib.ListN.{length, getD}
+use lib.ListN.{length, getD, take, drop}
 use lib.Dec.{ltb, eqb, eqb·suc-zero, eqb·zero-suc, eqb·suc-suc}
 use borrow.Author.Tests.{eqb-true, lt-ltb, le-ltb}
 use Rattle.laws.specs.Sum.{over, Σ, total, totalBy, indicator, count}
@@ -129,6 +129,13 @@ total-add f g [] = refl
 total-add f g (x ∷ xs) = omega (arith, total-add f g xs)
 
 -- a list's sum as a sum over its indices
+-- a list cut at k
+pub total-cut : {A : Type 0} (f : A → ℕ) (k : ℕ) (xs : List A) → total (map f (take k xs)) + total (map f (drop k xs)) ≡ total (map f xs)
+unfolding total
+total-cut f zero xs = omega arith
+total-cut f (suc k) [] = refl
+total-cut f (suc k) (x ∷ xs) = omega (arith, total-cut f k xs)
+
 pub Σ-map : {A : Type 0} (f : A → ℕ) (d : A) (xs : List A) → Σ (length xs) (λ i. f (getD xs i d)) ≡ total (map f xs)
 unfolding over total
 Σ-map f d [] = refl

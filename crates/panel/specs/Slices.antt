@@ -5,7 +5,6 @@ use mathlib.Core.Bool.{Bool, cond, _&&_}
 use mathlib.Core.List.{List, [], _∷_, map}
 use lib.Dec.{eqb, ltb}
 use lib.ListN.{length, getD, set, take, drop, replicate}
-use Rattle.round.specs.Round.{Lift as RoundLift}
 use Rattle.round.specs.Slices.{lifts, Callable}
 use Rattle.round.specs.Share.{Initial, here, elsewhere, heldOf}
 use Rattle.round.specs.declared.Donors.{Donors}
@@ -13,6 +12,7 @@ use Rattle.round.specs.declared.Donors.the-variants.{None as NoDonor, One as On
 use Rattle.round.specs.declared.Held.{Held}
 use Rattle.round.specs.declared.Held.the-variants.{Neither}
 use Rattle.round.specs.Choice.{selected}
+use Rattle.round.specs.declared.Lift.{Lift as RoundLift}
 use Rattle.round.specs.declared.Selected.{Selected}
 use Rattle.round.specs.declared.Selected.the-variants.{At as AtPlace, Short}
 use Rattle.sheet.specs.Sheet.{mostRounds}

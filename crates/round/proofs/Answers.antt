@@ -11,12 +11,13 @@ use Rattle.draw.specs.Draw.{drawAt}
 use Rattle.draw.specs.Run.{Run, finished, short, drew, run}
 use Rattle.draw.specs.declared.Drawn.{Drawn}
 use Rattle.draw.specs.declared.Drawn.the-variants.{Value, Short as Ended}
-use Rattle.round.specs.Round.{Lift, Weight, growth, G}
+use Rattle.round.specs.Round.{Weight, growth, G}
 use Rattle.round.specs.Choice.{Selection, selection, stayOr, replacement, keyfitz, plan, outcome, answer}
 use Rattle.round.specs.Slices.{lifts, scaled, scaleOf, wholly, drawGrowth}
 use Rattle.round.specs.declared.Donors.{Donors}
 use Rattle.round.specs.declared.Held.{Held}
 use Rattle.round.specs.declared.Held.the-variants.{Neither, Single, Both}
+use Rattle.round.specs.declared.Lift.{Lift}
 use Rattle.round.specs.declared.Scale.{Scale}
 use Rattle.round.specs.declared.Selected.{Selected}
 use Rattle.round.specs.declared.Selected.the-variants.{At, Short}

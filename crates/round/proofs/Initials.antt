@@ -10,12 +10,13 @@ use Rattle.laws.specs.Fraction.{Fraction, _//_, _⊗_, _≈_, sum}
 use Rattle.laws.proofs.Sums.{Σ-mul, Σ-map}
 use Rattle.laws.proofs.Fractions.{≈-refl, ≈-sym, ≈-trans, ≈-num, ⊕-≈, ⊕-same, ⊗-≈, ⊗-assoc, ⊗-distrib-right, sum-≈, sum-den, sum-same, sum-add, sum-part, sum-mix}
 use Rattle.round.proofs.Weights.{U-sum}
-use Rattle.round.specs.Round.{Lift, liftAt, sent, U, Sends, Donate}
+use Rattle.round.specs.Round.{liftAt, sent, U, Sends, Donate}
 use Rattle.round.specs.Share.{Initial, here, elsewhere, heldOf, overInitial, overHeld}
 use Rattle.round.specs.declared.Donors.{Donors}
 use Rattle.round.specs.declared.Donors.the-variants.{None, One, Two}
 use Rattle.round.specs.declared.Held.{Held}
 use Rattle.round.specs.declared.Held.the-variants.{Neither, Single, Both}
+use Rattle.round.specs.declared.Lift.{Lift}
 
 -- the held lifts stand at places below n
 abbrev pub Inside : ℕ → Held → Type 0

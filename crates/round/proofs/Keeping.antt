@@ -15,12 +15,13 @@ use Rattle.laws.proofs.Tests.{eqb-comm}
 use Rattle.laws.proofs.Sums.{over-ext, Σ-mono, Σ-mul, Σ-map, Σ-term}
 use Rattle.laws.proofs.Fractions.{≈-trans, ≈-num, ⊕-same, ⊗-≈, sum-≈}
 use Rattle.laws.proofs.Masses.{weighed}
-use Rattle.round.specs.Round.{Lift, liftAt, S, sent, U, D, oldWeight, Weight, weights, weightAt, Fitting}
+use Rattle.round.specs.Round.{liftAt, S, sent, U, D, oldWeight, Weight, weights, weightAt, Fitting}
 use Rattle.round.specs.Choice.{Selection, fresh, preliminary, keyfitz, select, plan, isHeld}
 use Rattle.round.specs.Share.{overInitial, overHeld, chooses}
 use Rattle.round.specs.Keep.{kept, Coupling, tickets, keptTickets, Keeps, KeepsTheorem}
 use Rattle.round.specs.declared.Donors.the-variants.{One}
 use Rattle.round.specs.declared.Held.the-variants.{Neither, Single}
+use Rattle.round.specs.declared.Lift.{Lift}
 use Rattle.round.proofs.Weights.{old-sum, new-sum, one-positive}
 use Rattle.round.proofs.Keyfitz.{none, smaller, stays}
 use Rattle.round.proofs.Shares.{weight-at, length-weights, every-fresh, every-update}

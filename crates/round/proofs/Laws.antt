@@ -8,7 +8,7 @@ use lib.ListN.{length}
 use lib.Dec.{leb, ltb}
 use Rattle.laws.proofs.Sums.{map-le}
 use Rattle.laws.specs.Plan.{Plan, done, draw, after, Drawable, Within}
-use Rattle.round.specs.Round.{Lift, Weight, weights, weightAt, Fitting}
+use Rattle.round.specs.Round.{Weight, weights, weightAt, Fitting}
 use Rattle.round.specs.Choice.{Preliminary, noUnit, unitAt, fresh, firstOdds, preliminary, stayOr, replacement, keyfitz, select, plan}
 use Rattle.round.specs.Slices.{Bounded, Stands}
 use Rattle.round.specs.Law.{Small, LawsTheorem}
@@ -16,6 +16,7 @@ use Rattle.round.specs.declared.Donors.{Donors}
 use Rattle.round.specs.declared.Donors.the-variants.{None, One, Two}
 use Rattle.round.specs.declared.Held.{Held}
 use Rattle.round.specs.declared.Held.the-variants.{Neither, Single, Both}
+use Rattle.round.specs.declared.Lift.{Lift}
 use Rattle.round.proofs.Weights.{old-sum, new-sum, losses, dropped-G, G-le, D-bound, weight-bound, one-positive, two-positive}
 use Rattle.round.proofs.Keyfitz.{none}
 use Rattle.round.proofs.Shares.{length-weights, every-fresh, every-plan}

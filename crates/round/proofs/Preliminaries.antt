@@ -14,12 +14,13 @@ use Rattle.laws.specs.Plan.{done, draw, mass}
 use Rattle.laws.proofs.Sums.{over-ext, Σ-add, Σ-mul, Σ-step, Σ-one}
 use Rattle.laws.proofs.Fractions.{≈-refl, ≈-trans, ≈-num}
 use Rattle.laws.proofs.Masses.{mass-even}
-use Rattle.round.specs.Round.{Lift, liftAt, S, sent, U, D, oldWeight, Sends}
+use Rattle.round.specs.Round.{liftAt, S, sent, U, D, oldWeight, Sends}
 use Rattle.round.specs.Choice.{Preliminary, noUnit, unitAt, preliminary, firstOdds}
 use Rattle.round.specs.Share.{here, elsewhere, heldOf, overInitial, overHeld}
 use Rattle.round.specs.declared.Donors.{Donors}
 use Rattle.round.specs.declared.Donors.the-variants.{One, Two}
 use Rattle.round.specs.declared.Held.{Held}
+use Rattle.round.specs.declared.Lift.{Lift}
 use Rattle.round.proofs.Initials.{sent-all, initial-same}
 
 -- ---- the draw between two held lifts

@@ -13,13 +13,14 @@ use borrow.Author.Tests.{eqb-true}
 use Rattle.laws.specs.Sum.{total}
 use Rattle.laws.specs.Plan.{draw, after}
 use Rattle.laws.proofs.Sums.{total-map, total-mul}
-use Rattle.round.specs.Round.{Lift, S, sent, U, D, oldWeight, newWeight, Weight, weights, growth, G, Fitting}
+use Rattle.round.specs.Round.{S, sent, U, D, oldWeight, newWeight, Weight, weights, growth, G, Fitting}
 use Rattle.round.specs.Choice.{fresh, firstOdds, preliminary, keyfitz, select, plan}
 use Rattle.round.specs.Slices.{lifts, Level, scaled, scaleOf, wholly, Room, Balanced, capacity, Bounded, Stands, Callable, drawGrowth}
 use Rattle.round.specs.declared.Donors.{Donors}
 use Rattle.round.specs.declared.Donors.the-variants.{None, One, Two}
 use Rattle.round.specs.declared.Held.{Held}
 use Rattle.round.specs.declared.Held.the-variants.{Neither, Single, Both}
+use Rattle.round.specs.declared.Lift.{Lift}
 use Rattle.round.specs.declared.Scale.{Scale}
 use Rattle.round.proofs.Weights.{old-sum, new-sum, two-positive, weight-bound}
 use Rattle.round.proofs.Walks.{lifts-length}

@@ -14,13 +14,14 @@ use Rattle.laws.specs.Plan.{after, Every, Drawable, paths, weight, mass}
 use Rattle.laws.proofs.Sums.{over-ext}
 use Rattle.laws.proofs.Fractions.{pos-left, ≈-refl, ≈-sym, ≈-trans, ⊕-≈, ⊗-≈, ⊗-assoc, sum-≈, sum-cut, sum-part}
 use Rattle.laws.proofs.Masses.{weighed, mass-after, mass-den, mass-hits, mean-classes, every-map, every-after}
-use Rattle.round.specs.Round.{Lift, liftAt, S, D, oldWeight, newWeight, weights, weightAt}
+use Rattle.round.specs.Round.{liftAt, S, D, oldWeight, newWeight, weights, weightAt}
 use Rattle.round.specs.Choice.{Preliminary, noUnit, unitAt, selection, fresh, preliminary, keyfitz, select, plan}
 use Rattle.round.specs.Share.{overHeld, chooses, comes, any, share, preliminaryShare, UpdatesTheorem, SharesTheorem}
 use Rattle.round.specs.declared.Donors.{Donors}
 use Rattle.round.specs.declared.Donors.the-variants.{None, One, Two}
 use Rattle.round.specs.declared.Held.{Held}
 use Rattle.round.specs.declared.Held.the-variants.{Neither, Single, Both}
+use Rattle.round.specs.declared.Lift.{Lift}
 use Rattle.round.proofs.Weights.{old-sum, new-sum, one-positive, two-positive}
 use Rattle.round.proofs.Keyfitz.{drawable, updated}
 use Rattle.round.proofs.Initials.{Inside, Sums, held-≈, held-mix, held-whole}

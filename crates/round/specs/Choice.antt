@@ -7,11 +7,12 @@ use Rattle.laws.specs.Interval.{pick}
 use Rattle.laws.specs.Plan.{Plan, done, draw, after}
 use Rattle.draw.specs.Draw.{largest}
 use Rattle.draw.specs.Run.{Run, finished, short, run}
-use Rattle.round.specs.Round.{Lift, S, U, D, Weight, weights, weightAt, growth, G}
+use Rattle.round.specs.Round.{S, U, D, Weight, weights, weightAt, growth, G}
 use Rattle.round.specs.declared.Donors.{Donors}
 use Rattle.round.specs.declared.Donors.the-variants.{None, One, Two}
 use Rattle.round.specs.declared.Held.{Held}
 use Rattle.round.specs.declared.Held.the-variants.{Neither, Single, Both}
+use Rattle.round.specs.declared.Lift.{Lift}
 use Rattle.round.specs.declared.Selected.{Selected}
 use Rattle.round.specs.declared.Selected.the-variants.{At, Short}
 

@@ -6,11 +6,12 @@ use lib.ListN.{length}
 use Rattle.laws.specs.Sum.{Σ, total}
 use Rattle.laws.specs.Fraction.{Fraction, _//_, _⊗_, _≈_, _≲_}
 use Rattle.laws.specs.Plan.{paths, weight}
-use Rattle.round.specs.Round.{Lift, S, U, D, Weight, weights, weightAt, Fitting}
+use Rattle.round.specs.Round.{S, U, D, Weight, weights, weightAt, Fitting}
 use Rattle.round.specs.Choice.{plan, isHeld}
 use Rattle.round.specs.Share.{overHeld}
 use Rattle.round.specs.declared.Donors.{Donors}
 use Rattle.round.specs.declared.Donors.the-variants.{One}
+use Rattle.round.specs.declared.Lift.{Lift}
 
 -- "what the ways weigh whose lift is held in their own marking"
 unfoldable pub kept : Donors → List Lift → Fraction

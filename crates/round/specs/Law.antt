@@ -5,11 +5,12 @@ use mathlib.Core.List.{List, map}
 use lib.ListN.{length}
 use Rattle.laws.specs.Sum.{total}
 use Rattle.laws.specs.Plan.{Drawable, Within}
-use Rattle.round.specs.Round.{Lift, S, D, weights, weightAt, G, Fitting}
+use Rattle.round.specs.Round.{S, D, weights, weightAt, G, Fitting}
 use Rattle.round.specs.Choice.{plan}
 use Rattle.round.specs.Slices.{Bounded, Stands}
 use Rattle.round.specs.declared.Donors.{Donors}
 use Rattle.round.specs.declared.Held.{Held}
+use Rattle.round.specs.declared.Lift.{Lift}
 
 -- the sums and products of a round within the sheet's bounds
 pub record Small (ds : Donors) (ls : List Lift) : Type 0 where

@@ -1,4 +1,5 @@
--- "One round" of document 01: the lifts of a new round, its sums, and the weights and growths of its lifts.
+-- "One round" of document 01: the lifts of a new round, its sums, and the weights and growths of its lifts. A lift is the code's
+-- `Lift`: old measure, donor and new measure.
 use Prim.Native.Nat.{ℕ, _+_, _-_, _*_, _≤_, _<_}
 use mathlib.Core.Bool.{cond}
 use mathlib.Core.List.{List, map}
@@ -7,12 +8,7 @@ use lib.Dec.{eqb}
 use Rattle.laws.specs.Sum.{total, totalBy}
 use Rattle.round.specs.declared.Donors.{Donors}
 use Rattle.round.specs.declared.Donors.the-variants.{None, One, Two}
-
--- a lift of the round: "m and b are a lift's old and new measures"; the donor that it comes from is 1 or 2, or 0 for none
-pub record Lift : Type 0 where
-  pub old : ℕ
-  pub donor : ℕ
-  pub new : ℕ
+use Rattle.round.specs.declared.Lift.{Lift}
 
 -- the lift at a place of the round; beyond the last there is none
 abbrev pub liftAt : List Lift → ℕ → Lift

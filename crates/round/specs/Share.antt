@@ -8,12 +8,13 @@ use lib.Dec.{eqb}
 use Rattle.laws.specs.Sum.{total}
 use Rattle.laws.specs.Fraction.{Fraction, _//_, _⊕_, _⊗_, _≈_, sum}
 use Rattle.laws.specs.Plan.{Plan, after, Every, paths, weight}
-use Rattle.round.specs.Round.{Lift, liftAt, S, sent, U, D, oldWeight, Weight, weightAt, Fitting}
+use Rattle.round.specs.Round.{liftAt, S, sent, U, D, oldWeight, Weight, weightAt, Fitting}
 use Rattle.round.specs.Choice.{Preliminary, noUnit, unitAt, Selection, preliminary, keyfitz, plan}
 use Rattle.round.specs.declared.Donors.{Donors}
 use Rattle.round.specs.declared.Donors.the-variants.{None, One, Two}
 use Rattle.round.specs.declared.Held.{Held}
 use Rattle.round.specs.declared.Held.the-variants.{Neither, Single, Both}
+use Rattle.round.specs.declared.Lift.{Lift}
 
 -- a donor's initial selection, its held lift (the document's marking, for one donor): at a place of this round, or in another round
 pub data Initial : Type 0 where

@@ -1,19 +1,20 @@
 -- A round lent as slices, what a caller shows of it, and its weights as the code computes them.
-use Prim.Native.Nat.{ℕ, _+_, _*_, _^_, _≤_, _<_}
+use Prim.Native.Nat.{ℕ, _+_, _-_, _*_, _^_, _≤_, _<_}
 use mathlib.Core.Path.{_≡_}
 use mathlib.Core.Bool.{Bool, cond}
 use mathlib.Core.List.{List, [], _∷_, map}
-use lib.ListN.{length}
-use lib.Dec.{eqb}
+use lib.ListN.{length, take, drop}
+use lib.Dec.{ltb, eqb}
 use Rattle.laws.specs.Sum.{total}
 use Rattle.laws.specs.Interval.{pick}
 use Rattle.laws.specs.Plan.{Plan, done, draw}
-use Rattle.round.specs.Round.{Lift, S, U, Weight, growth, G, Fitting}
+use Rattle.round.specs.Round.{S, U, Weight, growth, G, Fitting}
 use Rattle.round.specs.Choice.{Selection, selection}
 use Rattle.round.specs.declared.Donors.{Donors}
 use Rattle.round.specs.declared.Donors.the-variants.{None, One, Two}
 use Rattle.round.specs.declared.Held.{Held}
 use Rattle.round.specs.declared.Held.the-variants.{Neither, Single, Both}
+use Rattle.round.specs.declared.Lift.{Lift}
 use Rattle.round.specs.declared.Scale.{Scale}
 
 -- ---- what the code is given
@@ -94,9 +95,26 @@ pub record Room (s : Scale) (ls : List Lift) : Type 0 where
   pub olds : total (map (λ l. scaled s l .old) ls) ≤ 2 ^ 61
   pub news : total (map (λ l. scaled s l .new) ls) ≤ 2 ^ 61
 
+-- the weights of one lift
+pub record LiftRoom (s : Scale) (l : Lift) : Type 0 where
+  pub old : scaled s l .old ≤ 2 ^ 61
+  pub new : scaled s l .new ≤ 2 ^ 61
+
 -- "Both weights sum to D × S": the old weights and the new ones have the same sum
 pub record Balanced (s : Scale) (ls : List Lift) : Type 0 where
   pub sums : total (map (λ l. scaled s l .old) ls) ≡ total (map (λ l. scaled s l .new) ls)
+
+-- the most lifts that are lent at a time: a round is searched by parts, each as long but the last
+abbrev pub partLength : ℕ
+partLength = 16
+
+-- where the part that begins at place a ends, in a round of n lifts
+abbrev pub partEnd : ℕ → ℕ → ℕ
+partEnd a n = cond (ltb (n - a) partLength) n (a + partLength)
+
+-- the lifts from place a up to place e
+abbrev pub between : ℕ → ℕ → List Lift → List Lift
+between a e ls = take (e - a) (drop a ls)
 
 -- a draw below the sum of the growths takes the lift in whose interval it falls: a replacement, or fresh where the growths are
 -- the new measures

@@ -6,7 +6,7 @@ use lib.Dec.{ltb, eqb}
 use Rattle.draw.specs.Draw.{largest, drawAt}
 use Rattle.draw.specs.declared.Drawn.{Drawn}
 use Rattle.draw.specs.declared.Drawn.the-variants.{Value, Short as Ended}
-use Rattle.round.specs.Round.{Lift, liftAt, S}
+use Rattle.round.specs.Round.{liftAt, S}
 use Rattle.round.specs.Choice.{selected}
 use Rattle.round.specs.Share.{share}
 use Rattle.round.specs.Slices.{lift}
@@ -14,6 +14,7 @@ use Rattle.round.specs.declared.Donors.{Donors}
 use Rattle.round.specs.declared.Donors.the-variants.{One, Two}
 use Rattle.round.specs.declared.Held.{Held}
 use Rattle.round.specs.declared.Held.the-variants.{Neither, Single, Both}
+use Rattle.round.specs.declared.Lift.{Lift}
 use Rattle.round.specs.declared.Selected.{Selected}
 use Rattle.round.specs.declared.Selected.the-variants.{At, Short}
 

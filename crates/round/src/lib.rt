@@ -2,14 +2,14 @@
 // lift order: old measures, donors (1 or 2, 0 for none) and new measures.
 ghost use mathlib.Core.Path.{_≡_};
 ghost use mathlib.Core.List.{map};
-ghost use Prim.Native.Nat.{_*_, _^_, _≤_, _<_};
-ghost use lib.ListN.{length};
+ghost use Prim.Native.Nat.{_-_, _^_, _≤_, _<_};
+ghost use lib.ListN.{length, take};
 ghost use Rattle.laws.specs.Interval.{pick as pickOf};
 ghost use Rattle.draw.specs.Draw.{largest};
 ghost use Rattle.draw.specs.Run.{run};
 ghost use Rattle.round.specs.Round.{G, growth, sent, Fitting};
 ghost use Rattle.round.specs.Choice.{keyfitz, isHeld, outcome as outcomeOf, selection, answer, selected};
-ghost use Rattle.round.specs.Slices.{lift, lifts, Level, cameOf, multiplierOf, scaled, scaleOf, Room, Balanced, Bounded, Callable, drawGrowth};
+ghost use Rattle.round.specs.Slices.{lift, lifts, Level, partLength, partEnd, between, cameOf, multiplierOf, scaled, scaleOf, Room, LiftRoom, Balanced, Bounded, Callable, drawGrowth};
 use draw::Drawn;
 
 // The donors of a round, with their whole old sums T.
@@ -32,6 +32,13 @@ pub enum Selected {
     Short,
 }
 
+// A lift of the round: "m and b are a lift's old and new measures"; the donor that it comes from is 1 or 2, or 0 for none.
+pub struct Lift {
+    pub old: u64,
+    pub donor: u8,
+    pub new: u64,
+}
+
 // Multipliers that give weights: of new measures, and of the old measures of donor 1 and donor 2. Of the values below `new`,
 // `odds` make donor 1's lift preliminary where both donors' lifts are held here.
 struct Scale {
@@ -49,6 +56,9 @@ const WHOLLY: Scale = Scale {
     odds: 0,
 };
 
+// The most lifts that are lent at a time.
+const PART: usize = 16;
+
 // What the old measures of a donor are multiplied by.
 fn multiplier(s: Scale, donor: u8) -> u64
     ensures { λ r. ⌜ r ≡ multiplierOf s donor ⌝ }
@@ -63,16 +73,37 @@ fn multiplier(s: Scale, donor: u8) -> u64
 }
 
 // A lift's growth where above zero, else 0.
-fn interval(s: Scale, old: u64, donor: u8, new: u64) -> u64
-    requires { ⌜ (old * multiplierOf s donor ≤ 2 ^ 61) × (new * s .new ≤ 2 ^ 61) ⌝ }
-    ensures { λ r. ⌜ r ≡ growth (scaled s (lift old donor new)) ⌝ }
+fn interval(s: Scale, l: Lift) -> u64
+    requires { ⌜ LiftRoom s l ⌝ }
+    ensures { λ r. ⌜ r ≡ growth (scaled s l) ⌝ }
 {
-    let before = old * multiplier(s, donor);
-    let after = new * s.new;
+    let before = l.old * multiplier(s, l.donor);
+    let after = l.new * s.new;
     if before < after {
         return after - before;
     }
     0
+}
+
+// The sum of the intervals of the lifts from place a up to place e.
+fn reach_part(s: Scale, old: &[u64], donor: &[u8], new: &[u64], a: usize, e: usize) -> u64
+    requires { ⌜ Level (now old) (now donor) (now new) ⌝ }
+    requires { ⌜ Room s (lifts (now old) (now donor) (now new)) ⌝ }
+    requires { ⌜ e ≤ length (now old) ⌝ }
+    ensures { λ r. ⌜ r ≡ G (map (scaled s) (between a e (lifts (now (old .entry)) (now (donor .entry)) (now (new .entry))))) ⌝ }
+{
+    let mut sum: u64 = 0;
+    let mut i = a;
+    while i < e {
+        let l = Lift {
+            old: old[i],
+            donor: donor[i],
+            new: new[i],
+        };
+        sum += interval(s, l);
+        i += 1;
+    }
+    sum
 }
 
 // The sum of all intervals.
@@ -81,17 +112,73 @@ fn reach(s: Scale, old: &[u64], donor: &[u8], new: &[u64]) -> u64
     requires { ⌜ Room s (lifts (now old) (now donor) (now new)) ⌝ }
     ensures { λ r. ⌜ r ≡ G (map (scaled s) (lifts (now (old .entry)) (now (donor .entry)) (now (new .entry)))) ⌝ }
 {
-    let mut sum: u64 = 0;
-    let mut i = 0;
-    while i < old.len() {
-        sum += interval(s, old[i], donor[i], new[i]);
-        i += 1;
-    }
-    sum
+    reach_part(s, old, donor, new, 0, old.len())
 }
 
-// The place of the lift in whose interval the position q falls.
-fn pick(s: Scale, old: &[u64], donor: &[u8], new: &[u64], q: u64) -> usize
+// The place, among the lifts lent, of the one in whose interval the position q falls.
+fn pick(lifts: &[Lift], s: Scale, q: u64) -> usize
+    requires { ⌜ Room s (now lifts) ⌝ }
+    ensures { λ r. ⌜ r ≡ pickOf (map growth (map (scaled s) (now (lifts .entry)))) q ⌝ }
+{
+    let mut left = q;
+    let mut i = 0;
+    while i < lifts.len() {
+        let w = interval(s, lifts[i]);
+        if left < w {
+            return i;
+        }
+        left -= w;
+        i += 1;
+    }
+    i
+}
+
+// The same among the first n lifts of a part, which it lends.
+fn pick_first(part: [Lift; PART], n: usize, s: Scale, q: u64) -> usize
+    requires { ⌜ (n ≤ partLength) × Room s (take n part) ⌝ }
+    ensures { λ r. ⌜ r ≡ pickOf (map growth (map (scaled s) (take n part))) q ⌝ }
+{
+    pick(&part[..n], s, q)
+}
+
+// Where the part that begins at place a ends, in a round of n lifts.
+fn part_end(a: usize, n: usize) -> usize
+    requires { ⌜ a ≤ n ⌝ }
+    ensures { λ r. ⌜ r ≡ partEnd a n ⌝ }
+{
+    if n - a < PART {
+        return n;
+    }
+    a + PART
+}
+
+// The lifts from place a up to place e, at the start of a part.
+fn gathered(old: &[u64], donor: &[u8], new: &[u64], a: usize, e: usize) -> [Lift; PART]
+    requires { ⌜ Level (now old) (now donor) (now new) ⌝ }
+    requires { ⌜ (a ≤ e) × (e ≤ length (now old)) ⌝ }
+    requires { ⌜ e - a ≤ partLength ⌝ }
+    ensures { λ r. ⌜ take (e - a) r ≡ between a e (lifts (now (old .entry)) (now (donor .entry)) (now (new .entry))) ⌝ }
+{
+    let none = Lift {
+        old: 0,
+        donor: 0,
+        new: 0,
+    };
+    let mut part = [none; PART];
+    let mut i = a;
+    while i < e {
+        part[i - a] = Lift {
+            old: old[i],
+            donor: donor[i],
+            new: new[i],
+        };
+        i += 1;
+    }
+    part
+}
+
+// The place of the lift in whose interval the position q falls: first the part is found by the sums of parts, then the lift in it.
+fn pick_lift(s: Scale, old: &[u64], donor: &[u8], new: &[u64], q: u64) -> usize
     requires { ⌜ Level (now old) (now donor) (now new) ⌝ }
     requires { ⌜ Room s (lifts (now old) (now donor) (now new)) ⌝ }
     ensures { λ r. ⌜ r ≡ pickOf (map growth (map (scaled s) (lifts (now (old .entry)) (now (donor .entry)) (now (new .entry))))) q ⌝ }
@@ -99,12 +186,14 @@ fn pick(s: Scale, old: &[u64], donor: &[u8], new: &[u64], q: u64) -> usize
     let mut left = q;
     let mut i = 0;
     while i < old.len() {
-        let w = interval(s, old[i], donor[i], new[i]);
+        let e = part_end(i, old.len());
+        let w = reach_part(s, old, donor, new, i, e);
         if left < w {
-            return i;
+            let part = gathered(old, donor, new, i, e);
+            return i + pick_first(part, e - i, s, left);
         }
         left -= w;
-        i += 1;
+        i = e;
     }
     i
 }
@@ -216,7 +305,7 @@ fn draw_lift(
     let bound = reach(s, old, donor, new);
     match draw::below(words, at, bound) {
         Drawn::Value(q, next) => {
-            let place = pick(s, old, donor, new, q);
+            let place = pick_lift(s, old, donor, new, q);
             Selected::At(place, outcome(held, place, dropped), next)
         }
         Drawn::Short => Selected::Short,

@@ -9,10 +9,11 @@ use lib.ListN.{length, length-map}
 use borrow.Author.Tests.{eqb-true, eqb-false, lt-ltb, ltb-true, ltb-false, leb-false}
 use Rattle.laws.specs.Sum.{total, totalBy}
 use Rattle.laws.proofs.Tests.{eqb-comm}
-use Rattle.round.specs.Round.{Lift as RoundLift, S, U, Donate, Fitting as RoundFitting}
+use Rattle.round.specs.Round.{S, U, Donate, Fitting as RoundFitting}
 use Rattle.round.specs.Share.{Initial, here, elsewhere, heldOf}
 use Rattle.round.specs.declared.Donors.the-variants.{One, Two}
 use Rattle.round.specs.Slices.{lift, Stands, Bounded, SumsBounded}
+use Rattle.round.specs.declared.Lift.{Lift as RoundLift}
 use Rattle.sheet.specs.Sheet.{mostRounds, largestSum, Lift, lifts}
 use Rattle.sheet.specs.Rounds.{named, sumOf, sends, donors, ofRound}
 use Rattle.sheet.specs.Law.{Fitting}

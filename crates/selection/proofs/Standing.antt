@@ -11,9 +11,10 @@ use borrow.Author.Tests.{eqb-true, eq-eqb, ne-eqb}
 use Rattle.laws.specs.Sum.{over, totalBy}
 use Rattle.laws.specs.Fraction.{Fraction, _//_, _⊕_, _⊗_, _≈_, sum}
 use Rattle.laws.proofs.Fractions.{pos-left, ≈-refl, ≈-trans, ⊕-assoc, ⊕-≈}
-use Rattle.round.specs.Round.{Lift as RoundLift, liftAt, sent, U}
+use Rattle.round.specs.Round.{liftAt, sent, U}
 use Rattle.round.specs.Slices.{lift}
 use Rattle.round.specs.Share.{Initial, here, elsewhere}
+use Rattle.round.specs.declared.Lift.{Lift as RoundLift}
 use Rattle.sheet.specs.Sheet.{Lift}
 use Rattle.sheet.specs.Rounds.{sumOf, ofRound}
 use Rattle.sheet.specs.Law.{Listed}

@@ -8,7 +8,6 @@ use lib.ListN.{length, getD, drop}
 use Rattle.laws.specs.Plan.{Plan}
 use Rattle.draw.specs.Draw.{largest}
 use Rattle.draw.specs.Run.{Run, finished, short as ended, run}
-use Rattle.round.specs.Round.{Lift as RoundLift}
 use Rattle.round.specs.Slices.{lift}
 use Rattle.round.specs.Choice.{Selection, plan, outcome}
 use Rattle.round.specs.Share.{Initial, here, elsewhere, heldOf}
@@ -16,6 +15,7 @@ use Rattle.round.specs.declared.Donors.{Donors}
 use Rattle.round.specs.declared.Donors.the-variants.{None, One, Two}
 use Rattle.round.specs.declared.Held.{Held}
 use Rattle.round.specs.declared.Held.the-variants.{Neither}
+use Rattle.round.specs.declared.Lift.{Lift as RoundLift}
 use Rattle.sheet.specs.Sheet.{Lift, lifts, word}
 use Rattle.sheet.specs.Reading.{Numbered, numbered}
 use Rattle.sheet.specs.Rounds.{inUse, sumOf, donors, ofRound}

@@ -2,23 +2,21 @@
 use borrow.Author.Needs.{needs}
 use Prim.Native.Nat.{_-_}
 use lib.ListN.{length}
-use mathlib.Core.Path.{sym}
-use Rattle.round.proofs.Weights.{U-sum}
+use native.Mathlib.Nat.{le-refl}
 use Rattle.round.specs.Round.{sent}
 use Rattle.round.specs.Slices.{lifts, cameOf}
-use Rattle.round.proofs.Walks.{Summed, sum-none, sum-turn, sum-fits, sum-end}
+use Rattle.round.proofs.Walks.{Summed, came-none, sum-turn, sum-fits, sum-end}
 use Rattle.round.proofs.came.Statement.{statement}
 use Rattle.round.proofs.came.Tie as tie
 
 abbrev Inv-loop : tie.InvT-loop
-Inv-loop old donor k sum₀ i₀ sum i = Summed (sent k) (lifts old donor old) (cameOf k old donor) sum i
+Inv-loop old donor k sum₀ i₀ sum i = Summed (sent k) (lifts old donor old) (length old) (cameOf k old donor) sum i
 
 abbrev μ-loop : tie.MeasureT-loop
 μ-loop old donor k sum₀ i₀ sum i = length old - i
 
 loop-holds : tie.Need-loop-holds Inv-loop μ-loop
-unfolding cameOf
-loop-holds c = sum-none (sym (U-sum _ _))
+loop-holds c = search came-none
 
 mul-part : tie.Need-mul-part Inv-loop μ-loop
 mul-part c = search needs
@@ -33,7 +31,7 @@ part-requires : tie.Need-part-requires Inv-loop μ-loop
 part-requires c κs = search needs
 
 add-sum : tie.Need-add-sum Inv-loop μ-loop
-add-sum c = search sum-fits
+add-sum c = search (sum-fits, le-refl)
 
 add-i : tie.Need-add-i Inv-loop μ-loop
 add-i c = search needs
@@ -42,7 +40,7 @@ loop-less : tie.Need-loop-less Inv-loop μ-loop
 loop-less c = search needs
 
 loop-again : tie.Need-loop-again Inv-loop μ-loop
-loop-again c = search sum-turn
+loop-again c = search (sum-turn, le-refl)
 
 returns : tie.Need-returns Inv-loop μ-loop
 returns c = search sum-end

@@ -13,8 +13,8 @@ below-requires c κs = search needs
 enum-known-q : tie.Need-enum-known-q
 enum-known-q c = search needs
 
-pick-requires : tie.Need-pick-requires
-pick-requires c κs = search needs
+pick-lift-requires : tie.Need-pick-lift-requires
+pick-lift-requires c κs = search needs
 
 outcome-requires : tie.Need-outcome-requires
 outcome-requires c κs = search needs
@@ -35,7 +35,7 @@ draw-lift-spec =
     reach-requires
     below-requires
     enum-known-q
-    pick-requires
+    pick-lift-requires
     outcome-requires
     enum-told
     returns

@@ -10,7 +10,7 @@ multiplier-requires : tie.Need-multiplier-requires
 multiplier-requires c κs = search needs
 
 mul-before : tie.Need-mul-before
-mul-before c = omega (arith, ap (λ x. c .before .args .old * x) (c .multiplier .ensures))
+mul-before c = omega (arith, ap (λ x. c .before .before .args .l .old * x) (c .before .multiplier .ensures), c .before .before .pre .old)
 
 mul-after : tie.Need-mul-after
 mul-after c = search needs
@@ -19,10 +19,10 @@ sub-result : tie.Need-sub-result
 sub-result c = search needs
 
 returns : tie.Need-returns
-returns c = omega (arith, ap (λ x. c .before .before .before .args .old * x) (c .before .before .multiplier .ensures))
+returns c = let b = c .before .before .before .before in omega (arith, ap (λ x. b .before .args .l .old * x) (b .multiplier .ensures))
 
 returns-2 : tie.Need-returns-2
-returns-2 c = omega (arith, ap (λ x. c .before .before .before .args .old * x) (c .before .before .multiplier .ensures))
+returns-2 c = let b = c .before .before .before .before in omega (arith, ap (λ x. b .before .args .l .old * x) (b .multiplier .ensures))
 
 pub interval-spec : {M : Type 1} → statement M
 interval-spec =

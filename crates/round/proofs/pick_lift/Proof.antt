@@ -1,0 +1,68 @@
+-- `round::pick_lift` meets its contract: from i on, what is left of the position falls where the position falls in the whole. Assumes nothing.
+use borrow.Author.Needs.{needs}
+use Prim.Native.Nat.{_-_}
+use mathlib.Core.List.{map}
+use lib.ListN.{length}
+use Rattle.laws.specs.Interval.{pick}
+use Rattle.round.specs.Round.{growth}
+use Rattle.round.specs.Slices.{lifts, scaled}
+use Rattle.round.proofs.Walks.{Sought, grows, pick-none, pick-end, part-less, part-from, part-inside, part-short, part-turn, part-fits, part-here, part-room}
+use Rattle.round.proofs.pick_lift.Statement.{statement}
+use Rattle.round.proofs.pick_lift.Tie as tie
+
+abbrev Inv-loop : tie.InvT-loop
+Inv-loop s old donor new q left₀ i₀ left i = Sought (grows s) (lifts old donor new) (pick (map growth (map (scaled s) (lifts old donor new))) q) left i
+
+abbrev μ-loop : tie.MeasureT-loop
+μ-loop s old donor new q left₀ i₀ left i = length old - i
+
+loop-holds : tie.Need-loop-holds Inv-loop μ-loop
+loop-holds c = search pick-none
+
+part-end-requires : tie.Need-part-end-requires Inv-loop μ-loop
+part-end-requires c κs = search needs
+
+reach-part-requires : tie.Need-reach-part-requires Inv-loop μ-loop
+reach-part-requires c κs = search part-inside
+
+gathered-requires : tie.Need-gathered-requires Inv-loop μ-loop
+gathered-requires c κs = search (part-from, part-inside, part-short)
+
+sub-pick-first : tie.Need-sub-pick-first Inv-loop μ-loop
+sub-pick-first c = search part-from
+
+pick-first-requires : tie.Need-pick-first-requires Inv-loop μ-loop
+pick-first-requires c κs = search (part-short, part-room)
+
+add-result : tie.Need-add-result Inv-loop μ-loop
+add-result c = search part-fits
+
+returns : tie.Need-returns Inv-loop μ-loop
+returns c = search part-here
+
+loop-less : tie.Need-loop-less Inv-loop μ-loop
+loop-less c = search part-less
+
+loop-again : tie.Need-loop-again Inv-loop μ-loop
+loop-again c = search part-turn
+
+returns-2 : tie.Need-returns-2 Inv-loop μ-loop
+returns-2 c = search pick-end
+
+pub pick-lift-spec : {M : Type 1} → statement M
+pick-lift-spec =
+    tie.close
+    (tie.spec
+    Inv-loop
+    μ-loop
+    loop-holds
+    part-end-requires
+    reach-part-requires
+    gathered-requires
+    sub-pick-first
+    pick-first-requires
+    add-result
+    returns
+    loop-less
+    loop-again
+    returns-2)

@@ -1,0 +1,70 @@
+-- `round::reach_part` meets its contract: the sum so far and the growths from i up to e are G of the part. Assumes nothing.
+use borrow.Author.Needs.{needs}
+use Prim.Native.Nat.{_-_}
+use mathlib.Core.List.{map}
+use Rattle.round.specs.Round.{G}
+use Rattle.round.specs.Slices.{lifts, scaled, between}
+use Rattle.round.proofs.Walks.{Summed, grows, reach-none, sum-turn, sum-fits, sum-end, G-room, read-room}
+use Rattle.round.proofs.reach_part.Statement.{statement}
+use Rattle.round.proofs.reach_part.Tie as tie
+
+abbrev Inv-loop : tie.InvT-loop
+Inv-loop s old donor new a e sum₀ i₀ sum i = Summed (grows s) (lifts old donor new) e (G (map (scaled s) (between a e (lifts old donor new)))) sum i
+
+abbrev μ-loop : tie.MeasureT-loop
+μ-loop s old donor new a e sum₀ i₀ sum i = e - i
+
+loop-holds : tie.Need-loop-holds Inv-loop μ-loop
+loop-holds c = search reach-none
+
+mul-sum : tie.Need-mul-sum Inv-loop μ-loop
+mul-sum c = search needs
+
+shared-slice-read-sum : tie.Need-shared-slice-read-sum Inv-loop μ-loop
+shared-slice-read-sum c = search needs
+
+shared-slice-read-t15 : tie.Need-shared-slice-read-t15 Inv-loop μ-loop
+shared-slice-read-t15 c = search needs
+
+mul-t16 : tie.Need-mul-t16 Inv-loop μ-loop
+mul-t16 c = search needs
+
+shared-slice-read-t18 : tie.Need-shared-slice-read-t18 Inv-loop μ-loop
+shared-slice-read-t18 c = search needs
+
+interval-requires : tie.Need-interval-requires Inv-loop μ-loop
+interval-requires c κs = search read-room
+
+add-sum : tie.Need-add-sum Inv-loop μ-loop
+add-sum c = search (sum-fits, G-room)
+
+add-i : tie.Need-add-i Inv-loop μ-loop
+add-i c = search needs
+
+loop-less : tie.Need-loop-less Inv-loop μ-loop
+loop-less c = search needs
+
+loop-again : tie.Need-loop-again Inv-loop μ-loop
+loop-again c = search sum-turn
+
+returns : tie.Need-returns Inv-loop μ-loop
+returns c = search sum-end
+
+pub reach-part-spec : {M : Type 1} → statement M
+reach-part-spec =
+    tie.close
+    (tie.spec
+    Inv-loop
+    μ-loop
+    loop-holds
+    mul-sum
+    shared-slice-read-sum
+    shared-slice-read-t15
+    mul-t16
+    shared-slice-read-t18
+    interval-requires
+    add-sum
+    add-i
+    loop-less
+    loop-again
+    returns)
