@@ -12,11 +12,16 @@ pub enum Drawn {
     Short,
 }
 
-// A draw below `bound` that reads `words` from position `at` on.
-pub fn below(words: &[u64], at: usize, bound: u64) -> Drawn
+// A reader of random words: the list, and how far it has got.
+pub struct Reader<'a> {
+    words: &'a [u64],
+    at: usize,
+}
+
+// The first word from position `at` on that is not passed over gives the value.
+fn below(words: &[u64], at: usize, bound: u64) -> Drawn
     requires { ⌜ 1 ≤ bound ⌝ }
-    ensures drawn { λ r. ⌜ r ≡ drawAt largest (now (words .entry)) at bound ⌝ }
-    ensures exactly { λ _. ⌜ ExactlyK largest bound ⌝ }
+    ensures { λ r. ⌜ (r ≡ drawAt largest (now (words .entry)) at bound) × ExactlyK largest bound ⌝ }
 {
     let limit = LARGEST / bound * bound;
     let mut i = at;
@@ -28,4 +33,34 @@ pub fn below(words: &[u64], at: usize, bound: u64) -> Drawn
         i += 1;
     }
     Drawn::Short
+}
+
+// A reader that stands at the first word.
+pub fn new<'a>(words: &'a [u64]) -> Reader<'a>
+    ensures { λ r. ⌜ (r .words ≡ words .entry) × (r .at ≡ 0) ⌝ }
+{
+    Reader { words, at: 0 }
+}
+
+// The reader, moved to another position.
+pub fn moved<'a>(r: Reader<'a>, at: usize) -> Reader<'a>
+    ensures { λ q. ⌜ (q .words ≡ r .entry .words) × (q .at ≡ at) ⌝ }
+{
+    Reader { words: r.words, at }
+}
+
+// A draw below `bound` from where the reader stands.
+pub fn draw<'a>(r: Reader<'a>, bound: u64) -> Drawn
+    requires { ⌜ 1 ≤ bound ⌝ }
+    ensures { λ x. ⌜ (x ≡ drawAt largest (now (r .entry .words)) (r .entry .at) bound) × ExactlyK largest bound ⌝ }
+{
+    below(r.words, r.at, bound)
+}
+
+// A draw below `bound` that reads `words` from position `at` on: what every other crate calls.
+pub fn draw_from(words: &[u64], at: usize, bound: u64) -> Drawn
+    requires { ⌜ 1 ≤ bound ⌝ }
+    ensures { λ x. ⌜ (x ≡ drawAt largest (now (words .entry)) at bound) × ExactlyK largest bound ⌝ }
+{
+    draw(moved(new(words), at), bound)
 }

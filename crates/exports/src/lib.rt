@@ -14,7 +14,7 @@ use round::Held;
 use round::Selected;
 use sheet::Checked;
 
-// `draw::below`: true, the value and the next position written; or false, nothing written, where the words end. A bound of 0 has no value, so every word is passed over.
+// `draw::draw_from`: true, the value and the next position written; or false, nothing written, where the words end. A bound of 0 has no value, so every word is passed over.
 #[no_mangle]
 pub extern "C" fn jengpilo_draw_below(
     words: &[u64],
@@ -28,7 +28,7 @@ pub extern "C" fn jengpilo_draw_below(
     if bound == 0 {
         return false;
     }
-    let drawn = draw::below(words, at, bound);
+    let drawn = draw::draw_from(words, at, bound);
     match drawn {
         Drawn::Value(v, n) => {
             *value = v;

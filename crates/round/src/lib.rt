@@ -303,7 +303,7 @@ fn draw_lift(
     ensures { λ r. ⌜ r ≡ answer held (run largest (now (words .entry)) at (drawGrowth dropped (map (scaled s) (lifts (now (old .entry)) (now (donor .entry)) (now (new .entry)))))) ⌝ }
 {
     let bound = reach(s, old, donor, new);
-    match draw::below(words, at, bound) {
+    match draw::draw_from(words, at, bound) {
         Drawn::Value(q, next) => {
             let place = pick_lift(s, old, donor, new, q);
             Selected::At(place, outcome(held, place, dropped), next)
@@ -334,7 +334,7 @@ fn update(
     if before <= after {
         return Selected::At(i, outcome(held, i, false), at);
     }
-    match draw::below(words, at, before) {
+    match draw::draw_from(words, at, before) {
         Drawn::Value(r, next) => {
             if r < after {
                 Selected::At(i, outcome(held, i, false), next)
@@ -363,7 +363,7 @@ fn select_of_two(
 {
     let held = Held::Both(i, j);
     let s = scaling(old, donor, new, donors);
-    match draw::below(words, at, s.new) {
+    match draw::draw_from(words, at, s.new) {
         Drawn::Value(v, next) => {
             if v < s.odds {
                 update(s, old, donor, new, held, i, words, next)

@@ -1,4 +1,4 @@
--- `exports::jengpilo_draw_below` meets its contract: what `below` ensures, by the two cases of its answer. Assumes nothing.
+-- `exports::jengpilo_draw_below` meets its contract: what `draw_from` ensures, by the two cases of its answer. Assumes nothing.
 use borrow.Author.Needs.{needs}
 use mathlib.Core.Path.{sym}
 use Rattle.draw.specs.Draw.{largest}
@@ -10,8 +10,8 @@ use Rattle.exports.proofs.jengpilo_draw_below.Tie as tie
 returns : tie.Need-returns
 returns c = replied-short (rw (c .if1 .taken) (sym (zero-short largest _ _)))
 
-below-requires : tie.Need-below-requires
-below-requires c κs = search needs
+draw-from-requires : tie.Need-draw-from-requires
+draw-from-requires c κs = search needs
 
 enum-known-drawn : tie.Need-enum-known-drawn
 enum-known-drawn c = search needs
@@ -27,4 +27,4 @@ returns-3 c = replied-short (cc)
 
 pub jengpilo-draw-below-spec : {M : Type 1} → statement M
 jengpilo-draw-below-spec =
-    tie.close (tie.spec returns below-requires enum-known-drawn enum-told returns-2 returns-3)
+    tie.close (tie.spec returns draw-from-requires enum-known-drawn enum-told returns-2 returns-3)

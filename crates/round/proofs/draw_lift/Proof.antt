@@ -7,8 +7,8 @@ use Rattle.round.proofs.draw_lift.Tie as tie
 reach-requires : tie.Need-reach-requires
 reach-requires c κs = search needs
 
-below-requires : tie.Need-below-requires
-below-requires c κs = search needs
+draw-from-requires : tie.Need-draw-from-requires
+draw-from-requires c κs = search needs
 
 enum-known-q : tie.Need-enum-known-q
 enum-known-q c = search needs
@@ -33,7 +33,7 @@ draw-lift-spec =
     tie.close
     (tie.spec
     reach-requires
-    below-requires
+    draw-from-requires
     enum-known-q
     pick-lift-requires
     outcome-requires

@@ -8,8 +8,8 @@ use Rattle.round.proofs.select_of_two.Tie as tie
 scaling-requires : tie.Need-scaling-requires
 scaling-requires c κs = search needs
 
-below-requires : tie.Need-below-requires
-below-requires c κs = search both-drawable
+draw-from-requires : tie.Need-draw-from-requires
+draw-from-requires c κs = search both-drawable
 
 enum-known-v : tie.Need-enum-known-v
 enum-known-v c = search needs
@@ -41,7 +41,7 @@ select-of-two-spec =
     tie.close
     (tie.spec
     scaling-requires
-    below-requires
+    draw-from-requires
     enum-known-v
     update-requires
     update-requires-2

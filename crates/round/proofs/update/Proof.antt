@@ -42,8 +42,8 @@ outcome-requires c κs = search needs
 returns : tie.Need-returns
 returns c = search (stays, weighed (c .before .before .before .before), c .before .if1 .taken, c .outcome .ensures)
 
-below-requires : tie.Need-below-requires
-below-requires c κs = search needs
+draw-from-requires : tie.Need-draw-from-requires
+draw-from-requires c κs = search needs
 
 enum-known-r : tie.Need-enum-known-r
 enum-known-r c = search needs
@@ -84,7 +84,7 @@ update-spec =
     mul-after-2
     outcome-requires
     returns
-    below-requires
+    draw-from-requires
     enum-known-r
     outcome-requires-2
     draw-lift-requires
