@@ -29,7 +29,7 @@ use ghost.Atoms.{Atoms}
 use contract.Lifetimes.{Lfts}
 use contract.Monad.{Fun}
 use contract.Running.{givenOf, tables, tablesOf}
-use sound.WpLaws.{fmOf, WpFn-mono}
+use sound.WpLaws.{fmOf}
 use denote.RattleType.{RattleType, owns}
 use denote.Laws.{Is, shows}
 use denote.Struct.Laws as LL
@@ -37,8 +37,8 @@ use denote.Triple.Statement.{Contract, Triple}
 use denote.Triple.Entry.{onEntry}
 use denote.Triple.Spec.{Meets, tripleOf}
 use denote.Triple.Table.{entered, cited}
-use denote.Triple.Walked.{says, needs, Stays, walkOf, walked, walk-meets}
-use Rattle.walking.proofs.Walking.{val, sets, calls-said, freed, drops, drops-go, ends-plain}
+use denote.Triple.Walked.{says, needs}
+use Rattle.walking.proofs.Walking.{val, sets, calls-said, freed, ends-plain, Outside, Walk, meets-plain}
 use Rattle.draw.specs.declared.Reader.{Reader}
 use Rattle.draw.proofs.Reader as T
 use Rattle.draw.proofs.Reader.Laws as T′
@@ -57,9 +57,6 @@ use Rattle.draw.proofs.draw.Code as code
 -- the struct's type, over the signature's lifetimes
 abbrev B : Lfts 1 → RattleType
 B κs = T.the-row (namedLft 1 0 tt κs)
-
-abbrev stayed : Stays (f.ended .signature .params) (f.ended .kept)
-stayed = drops (f.ended .signature .params) (f.ended .kept)
 
 module _ {M : Type 1} (𝓤 : URA M) (H : Heap 𝓤) (A : Atoms 𝓤) (mem : Memory → SProp 𝓤) (run : Routine → Fun 𝓤) where
   -- the contracts that the proof cites
@@ -80,7 +77,7 @@ module _ {M : Type 1} (𝓤 : URA M) (H : Heap 𝓤) (A : Atoms 𝓤) (W : Given
   L = T′.the-laws (namedLft 1 0 tt (κ, tt))
 
   -- what the triple binds outside
-  abbrev y : walkOf 𝓤 H A f.ended stayed (f.clauses 𝓤 H A mem run) .Ghost
+  abbrev y : Outside 𝓤 H A W f.ended (f.clauses 𝓤 H A mem run)
   y = (((κ, tt), (q, tt), tt, (d, (n, tt)), (mach ∷ [], (vint w64 n ∷ [], tt))), tt)
 
   -- what the callee's triple binds outside
@@ -90,7 +87,7 @@ module _ {M : Type 1} (𝓤 : URA M) (H : Heap 𝓤) (A : Atoms 𝓤) (W : Given
   asked : 1 ≤ n → ent 𝓤 (onEntry 𝓤 H A below.signature (κ, tt) (q, tt) (to .0 .3) (to .0 .4)) (Below 𝓤 H A mem run .pre to)
   asked pos = qed W (raw (onEntry 𝓤 H A below.signature (κ, tt) (q, tt) (to .0 .3) (to .0 .4)) ∷ []) ∵ says ! pos $ done !
 
-  walk : Triple 𝓤 (𝓣 .C #draw·below) (Below 𝓤 H A mem run) → Holds (hasTy (T′.mir (named 0)) mach) × WT mach → 1 ≤ n → ent 𝓤 (onEntry 𝓤 H A f.signature (κ, tt) (q, tt) (y .0 .3) (y .0 .4)) (WpFn 𝓤 H (𝓣 .C) (𝓣 .Λ) code.function (mach ∷ vint w64 n ∷ []) (walkOf 𝓤 H A f.ended stayed (f.clauses 𝓤 H A mem run) .post y))
+  walk : Triple 𝓤 (𝓣 .C #draw·below) (Below 𝓤 H A mem run) → Holds (hasTy (T′.mir (named 0)) mach) × WT mach → 1 ≤ n → Walk 𝓤 H A W f.ended (f.clauses 𝓤 H A mem run) 𝓣 code.function y
   walk known wt pos =
       qed W ((‵ (flft κ q) ⊛ ‵ ftrue) ∷ ‵ (owns (B (κ, tt) ∷ u64 ∷ []) (y .0 .3) (y .0 .4)) ∷ []) ∵ enter ! (𝓣 .C) (𝓣 .Λ) code.function (mach ∷ vint w64 n ∷ []) _ $
       alloc1 ! (λ l₀. alloc1 ! (λ l₁. alloc1 ! (λ l₂. alloc1 ! (λ l₃. alloc1 ! (λ l₄. alloc0 ! $ params1 ! $ pass1 ! (init ! 6 refl wt) $ pass1 ! (init ! 4 refl (tt, record { fits = ok })) $ pass0 ! $
@@ -109,9 +106,8 @@ module _ {M : Type 1} (𝓤 : URA M) (H : Heap 𝓤) (A : Atoms 𝓤) (W : Given
 meets : {M : Type 1} (𝓤 : URA M) (H : Heap 𝓤) (A : Atoms 𝓤) → Given 𝓤 H A → (mem : Memory → SProp 𝓤) (run : Routine → Fun 𝓤) (𝓣 : Tables 𝓤 H) → Triple 𝓤 (𝓣 .C #draw·below) (Below 𝓤 H A mem run)
     → Meets 𝓤 H A f.signature (WpFn 𝓤 H (𝓣 .C) (𝓣 .Λ) code.function) (f.spec 𝓤 H A mem run)
 meets 𝓤 H A W mem run 𝓣 known-below =
-    walk-meets 𝓤 H A f.ended stayed W (drops-go 𝓤 H A W 1 (f.ended .signature .params) (f.ended .kept) ((λ κs x k. refl), ((λ κs x k. refl), tt))) (f.clauses 𝓤 H A mem run) (WpFn 𝓤 H (𝓣 .C) (𝓣 .Λ) code.function) (WpFn-mono 𝓤 H (W .laws) 𝓣 code.function)
-    (walked 𝓤 H A f.ended stayed (f.clauses 𝓤 H A mem run) (WpFn 𝓤 H (𝓣 .C) (𝓣 .Λ) code.function) (λ κs. (LL.vals (T.the-type (namedLft 1 0 tt κs)) (T′.the-laws (namedLft 1 0 tt κs)), (uint-vals w64, tt))) (λ κs. (LL.tells (T.the-type (namedLft 1 0 tt κs)) (T′.the-laws (namedLft 1 0 tt κs)), (uint-tells w64, tt)))
-    (λ κs qs bounds a g are. needs 𝓤 _ _ (walk 𝓤 H A W mem run 𝓣 (κs .0) (qs .0) (a .0) (a .1 .0) (are .1 .0 .1) known-below (LL.lawful (T.the-type (namedLft 1 0 tt κs)) (T′.the-laws (namedLft 1 0 tt κs)) 𝓤 H A W .typed (a .0) _ (are .0) .0))))
+    meets-plain 𝓤 H A W f.ended (f.clauses 𝓤 H A mem run) ((λ κs x k. refl), ((λ κs x k. refl), tt)) 𝓣 code.function (λ κs. (LL.vals (T.the-type (namedLft 1 0 tt κs)) (T′.the-laws (namedLft 1 0 tt κs)), (uint-vals w64, tt))) (λ κs. (LL.tells (T.the-type (namedLft 1 0 tt κs)) (T′.the-laws (namedLft 1 0 tt κs)), (uint-tells w64, tt)))
+    (λ κs qs bounds a g are. needs 𝓤 _ _ (walk 𝓤 H A W mem run 𝓣 (κs .0) (qs .0) (a .0) (a .1 .0) (are .1 .0 .1) known-below (LL.lawful (T.the-type (namedLft 1 0 tt κs)) (T′.the-laws (namedLft 1 0 tt κs)) 𝓤 H A W .typed (a .0) _ (are .0) .0)))
 
 pub draw-spec : {M : Type 1} → stated.statement M
 unfolding code.routine tablesOf

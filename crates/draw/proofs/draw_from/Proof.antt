@@ -25,16 +25,16 @@ use ghost.Atoms.{Atoms, sem}
 use contract.Lifetimes.{Lfts}
 use contract.Monad.{Fun}
 use contract.Running.{givenOf, tables, tablesOf}
-use sound.WpLaws.{fmOf, WpFn-mono}
+use sound.WpLaws.{fmOf}
 use denote.RattleType.{RattleType, owns}
 use denote.Laws.{Is, shows}
 use denote.Struct.Laws as LL
 use denote.Triple.Statement.{Contract, Triple}
-use denote.Triple.Entry.{alive, onEntry}
+use denote.Triple.Entry.{alive}
 use denote.Triple.Spec.{Meets, tripleOf}
 use denote.Triple.Table.{entered, cited}
-use denote.Triple.Walked.{says, needs, Stays, walkOf, walked, walk-meets}
-use Rattle.walking.proofs.Walking.{val, calls-said, freed, drops, drops-go, ends-plain}
+use denote.Triple.Walked.{says, needs}
+use Rattle.walking.proofs.Walking.{val, calls-said, freed, ends-plain, Outside, Walk, meets-plain}
 use Rattle.draw.specs.declared.Reader.{Reader}
 use Rattle.draw.proofs.Reader as T
 use Rattle.draw.proofs.Reader.Laws as T′
@@ -62,9 +62,6 @@ use Rattle.draw.proofs.draw_from.Code as code
 abbrev B : Lfts 1 → RattleType
 B κs = T.the-row (namedLft 1 0 tt κs)
 
-abbrev stayed : Stays (f.ended .signature .params) (f.ended .kept)
-stayed = drops (f.ended .signature .params) (f.ended .kept)
-
 module _ {M : Type 1} (𝓤 : URA M) (H : Heap 𝓤) (A : Atoms 𝓤) (mem : Memory → SProp 𝓤) (run : Routine → Fun 𝓤) where
   -- the contracts that the proof cites
   abbrev New : Contract 𝓤
@@ -85,7 +82,7 @@ module _ {M : Type 1} (𝓤 : URA M) (H : Heap 𝓤) (A : Atoms 𝓤) (W : Given
   αᵉ = record { mir = erased; lft = κ }
 
   -- what the triple binds outside
-  abbrev y : walkOf 𝓤 H A f.ended stayed (f.clauses 𝓤 H A mem run) .Ghost
+  abbrev y : Outside 𝓤 H A W f.ended (f.clauses 𝓤 H A mem run)
   y = (((κ, tt), (q, tt), tt, (s, (i, (n, tt))), (v ∷ [], (vint w64 i ∷ [], (vint w64 n ∷ [], tt)))), tt)
 
   abbrev Alive : SProp 𝓤
@@ -113,7 +110,7 @@ module _ {M : Type 1} (𝓤 : URA M) (H : Heap 𝓤) (A : Atoms 𝓤) (W : Given
       qed W (‵ (B (κ, tt) .own r (u ∷ [])) ∷ raw Alive ∷ []) ∵ says ! pos $ nothing ! $ owned ! u64 (Is u64) (uint-makes 𝓤 H A W w64) n _ (refl, ok) $ fjoin ! $ move ! (1 ∷ 0 ∷ []) $ fjoin ! $ move ! (1 ∷ 0 ∷ []) $ frame ! $ done !
 
   module _ (known-new : Triple 𝓤 (𝓣 .C #draw·new) (New 𝓤 H A mem run)) (known-moved : Triple 𝓤 (𝓣 .C #draw·moved) (Moved 𝓤 H A mem run)) (known-draw : Triple 𝓤 (𝓣 .C #draw·draw) (Draw 𝓤 H A mem run)) where
-    walk : Is (ShrSlice (named 0) κ u64) s (v ∷ []) → 1 ≤ n → ent 𝓤 (onEntry 𝓤 H A f.signature (κ, tt) (q, tt) (y .0 .3) (y .0 .4)) (WpFn 𝓤 H (𝓣 .C) (𝓣 .Λ) code.function (v ∷ vint w64 i ∷ vint w64 n ∷ []) (walkOf 𝓤 H A f.ended stayed (f.clauses 𝓤 H A mem run) .post y))
+    walk : Is (ShrSlice (named 0) κ u64) s (v ∷ []) → 1 ≤ n → Walk 𝓤 H A W f.ended (f.clauses 𝓤 H A mem run) 𝓣 code.function y
     walk p pos =
         qed W (raw Alive ∷ ‵ (owns (ShrSlice (named 0) κ u64 ∷ usize ∷ u64 ∷ []) (y .0 .3) (y .0 .4)) ∷ []) ∵ enter ! (𝓣 .C) (𝓣 .Λ) code.function (v ∷ vint w64 i ∷ vint w64 n ∷ []) _ $
         alloc1 ! (λ l₀. alloc1 ! (λ l₁. alloc1 ! (λ l₂. alloc1 ! (λ l₃. alloc1 ! (λ l₄. alloc1 ! (λ l₅. alloc0 ! $ params1 ! $
@@ -134,9 +131,8 @@ module _ {M : Type 1} (𝓤 : URA M) (H : Heap 𝓤) (A : Atoms 𝓤) (W : Given
 meets : {M : Type 1} (𝓤 : URA M) (H : Heap 𝓤) (A : Atoms 𝓤) → Given 𝓤 H A → (mem : Memory → SProp 𝓤) (run : Routine → Fun 𝓤) (𝓣 : Tables 𝓤 H) → Triple 𝓤 (𝓣 .C #draw·new) (New 𝓤 H A mem run) → Triple 𝓤 (𝓣 .C #draw·moved) (Moved 𝓤 H A mem run) → Triple 𝓤 (𝓣 .C #draw·draw) (Draw 𝓤 H A mem run)
     → Meets 𝓤 H A f.signature (WpFn 𝓤 H (𝓣 .C) (𝓣 .Λ) code.function) (f.spec 𝓤 H A mem run)
 meets 𝓤 H A W mem run 𝓣 known-new known-moved known-draw =
-    walk-meets 𝓤 H A f.ended stayed W (drops-go 𝓤 H A W 1 (f.ended .signature .params) (f.ended .kept) ((λ κs x k. refl), ((λ κs x k. refl), ((λ κs x k. refl), tt)))) (f.clauses 𝓤 H A mem run) (WpFn 𝓤 H (𝓣 .C) (𝓣 .Λ) code.function) (WpFn-mono 𝓤 H (W .laws) 𝓣 code.function)
-    (walked 𝓤 H A f.ended stayed (f.clauses 𝓤 H A mem run) (WpFn 𝓤 H (𝓣 .C) (𝓣 .Λ) code.function) (λ κs. (slice-vals, (uint-vals w64, (uint-vals w64, tt)))) (λ κs. (shr-slice-tells (named 0) (κs .0) u64, (uint-tells w64, (uint-tells w64, tt))))
-    (λ κs qs bounds a g are. needs 𝓤 _ _ (walk 𝓤 H A W mem run 𝓣 (κs .0) (qs .0) (a .0) (a .1 .0) (a .1 .1 .0) (are .1 .0 .1) (are .1 .1 .0 .1) known-new known-moved known-draw (are .0))))
+    meets-plain 𝓤 H A W f.ended (f.clauses 𝓤 H A mem run) ((λ κs x k. refl), ((λ κs x k. refl), ((λ κs x k. refl), tt))) 𝓣 code.function (λ κs. (slice-vals, (uint-vals w64, (uint-vals w64, tt)))) (λ κs. (shr-slice-tells (named 0) (κs .0) u64, (uint-tells w64, (uint-tells w64, tt))))
+    (λ κs qs bounds a g are. needs 𝓤 _ _ (walk 𝓤 H A W mem run 𝓣 (κs .0) (qs .0) (a .0) (a .1 .0) (a .1 .1 .0) (are .1 .0 .1) (are .1 .1 .0 .1) known-new known-moved known-draw (are .0)))
 
 pub draw-from-spec : {M : Type 1} → stated.statement M
 unfolding code.routine tablesOf

@@ -5,7 +5,7 @@ use Prim.Native.Nat.{ℕ, _<_, _^_}
 use lib.Dec.{T as Holds}
 use mir.Syntax.{named, w64}
 use mir.Val.{Val, WT, hasTy, vint}
-use base.Logic.{SProp, ent, emp, via, fst∗}
+use base.Logic.{SProp, emp, via, fst∗}
 use base.Fml.{Lft, Share, ftrue, flft}
 use types.Kit.{Given, ‵, _⊛_, _$_, _∵_, !, qed, by, move, drop, use2, fsplit}
 use types.Part.{whole, sub, look-in, agg}
@@ -24,15 +24,12 @@ use ghost.Atoms.{Atoms}
 use contract.Lifetimes.{Lfts}
 use contract.Monad.{Fun}
 use contract.Running.{givenOf, tables, tablesOf}
-use sound.WpLaws.{WpFn-mono}
 use denote.RattleType.{RattleType, owns}
 use denote.Laws.{Is}
 use denote.Struct.Laws as LL
-use denote.Triple.Entry.{onEntry}
 use denote.Triple.Spec.{Meets, tripleOf}
 use denote.Triple.Table.{entered}
-use denote.Triple.Walked.{Stays, walkOf, walked, walk-meets}
-use Rattle.walking.proofs.Walking.{val, sets, freed, drops, drops-go, ends-plain}
+use Rattle.walking.proofs.Walking.{val, sets, freed, ends-plain, Outside, Walk, meets-plain}
 use Rattle.draw.specs.declared.Reader.{Reader}
 use Rattle.draw.proofs.Reader as T
 use Rattle.draw.proofs.Reader.Laws as T′
@@ -45,9 +42,6 @@ use Rattle.draw.proofs.moved.Code as code
 abbrev B : Lfts 1 → RattleType
 B κs = T.the-row (namedLft 1 0 tt κs)
 
-abbrev stayed : Stays (f.ended .signature .params) (f.ended .kept)
-stayed = drops (f.ended .signature .params) (f.ended .kept)
-
 module _ {M : Type 1} (𝓤 : URA M) (H : Heap 𝓤) (A : Atoms 𝓤) (W : Given 𝓤 H A) (mem : Memory → SProp 𝓤) (run : Routine → Fun 𝓤) (𝓣 : Tables 𝓤 H) (κ : Lft) (q : Share) (d : Reader) (n : ℕ) (ok : n < 2 ^ 64) where
   abbrev mach : Val
   mach = T′.lowered d
@@ -56,10 +50,10 @@ module _ {M : Type 1} (𝓤 : URA M) (H : Heap 𝓤) (A : Atoms 𝓤) (W : Given
   d′ = record { words = d .words; at = n }
 
   -- what the triple binds outside
-  abbrev y : walkOf 𝓤 H A f.ended stayed (f.clauses 𝓤 H A mem run) .Ghost
+  abbrev y : Outside 𝓤 H A W f.ended (f.clauses 𝓤 H A mem run)
   y = (((κ, tt), (q, tt), tt, (d, (n, tt)), (mach ∷ [], (vint w64 n ∷ [], tt))), tt)
 
-  walk : Holds (hasTy (T′.mir (named 0)) mach) × WT mach → ent 𝓤 (onEntry 𝓤 H A f.signature (κ, tt) (q, tt) (y .0 .3) (y .0 .4)) (WpFn 𝓤 H (𝓣 .C) (𝓣 .Λ) code.function (mach ∷ vint w64 n ∷ []) (walkOf 𝓤 H A f.ended stayed (f.clauses 𝓤 H A mem run) .post y))
+  walk : Holds (hasTy (T′.mir (named 0)) mach) × WT mach → Walk 𝓤 H A W f.ended (f.clauses 𝓤 H A mem run) 𝓣 code.function y
   walk wt =
       qed W ((‵ (flft κ q) ⊛ ‵ ftrue) ∷ ‵ (owns (B (κ, tt) ∷ usize ∷ []) (y .0 .3) (y .0 .4)) ∷ []) ∵ enter ! (𝓣 .C) (𝓣 .Λ) code.function (mach ∷ vint w64 n ∷ []) _ $
       alloc1 ! (λ l₀. alloc1 ! (λ l₁. alloc1 ! (λ l₂. alloc1 ! (λ l₃. alloc0 ! $ params1 ! $ pass1 ! (init ! 4 refl wt) $ pass1 ! (init ! 2 refl (tt, record { fits = ok })) $ pass0 ! $
@@ -74,9 +68,8 @@ module _ {M : Type 1} (𝓤 : URA M) (H : Heap 𝓤) (A : Atoms 𝓤) (W : Given
 meets : {M : Type 1} (𝓤 : URA M) (H : Heap 𝓤) (A : Atoms 𝓤) → Given 𝓤 H A → (mem : Memory → SProp 𝓤) (run : Routine → Fun 𝓤) (𝓣 : Tables 𝓤 H)
     → Meets 𝓤 H A f.signature (WpFn 𝓤 H (𝓣 .C) (𝓣 .Λ) code.function) (f.spec 𝓤 H A mem run)
 meets 𝓤 H A W mem run 𝓣 =
-    walk-meets 𝓤 H A f.ended stayed W (drops-go 𝓤 H A W 1 (f.ended .signature .params) (f.ended .kept) ((λ κs x k. refl), ((λ κs x k. refl), tt))) (f.clauses 𝓤 H A mem run) (WpFn 𝓤 H (𝓣 .C) (𝓣 .Λ) code.function) (WpFn-mono 𝓤 H (W .laws) 𝓣 code.function)
-    (walked 𝓤 H A f.ended stayed (f.clauses 𝓤 H A mem run) (WpFn 𝓤 H (𝓣 .C) (𝓣 .Λ) code.function) (λ κs. (LL.vals (T.the-type (namedLft 1 0 tt κs)) (T′.the-laws (namedLft 1 0 tt κs)), (uint-vals w64, tt))) (λ κs. (LL.tells (T.the-type (namedLft 1 0 tt κs)) (T′.the-laws (namedLft 1 0 tt κs)), (uint-tells w64, tt)))
-    (λ κs qs bounds a g are. via 𝓤 _ (fst∗ 𝓤 _ (emp 𝓤)) (walk 𝓤 H A W mem run 𝓣 (κs .0) (qs .0) (a .0) (a .1 .0) (are .1 .0 .1) (LL.lawful (T.the-type (namedLft 1 0 tt κs)) (T′.the-laws (namedLft 1 0 tt κs)) 𝓤 H A W .typed (a .0) _ (are .0) .0))))
+    meets-plain 𝓤 H A W f.ended (f.clauses 𝓤 H A mem run) ((λ κs x k. refl), ((λ κs x k. refl), tt)) 𝓣 code.function (λ κs. (LL.vals (T.the-type (namedLft 1 0 tt κs)) (T′.the-laws (namedLft 1 0 tt κs)), (uint-vals w64, tt))) (λ κs. (LL.tells (T.the-type (namedLft 1 0 tt κs)) (T′.the-laws (namedLft 1 0 tt κs)), (uint-tells w64, tt)))
+    (λ κs qs bounds a g are. via 𝓤 _ (fst∗ 𝓤 _ (emp 𝓤)) (walk 𝓤 H A W mem run 𝓣 (κs .0) (qs .0) (a .0) (a .1 .0) (are .1 .0 .1) (LL.lawful (T.the-type (namedLft 1 0 tt κs)) (T′.the-laws (namedLft 1 0 tt κs)) 𝓤 H A W .typed (a .0) _ (are .0) .0)))
 
 pub moved-spec : {M : Type 1} → stated.statement M
 unfolding code.routine tablesOf

@@ -6,7 +6,7 @@ use lib.Dec.{lit<}
 use lib.ListN.{length}
 use mir.Syntax.{named, w64}
 use mir.Val.{Val}
-use base.Logic.{SProp, ent, emp, via, fst∗}
+use base.Logic.{SProp, emp, via, fst∗}
 use base.Fml.{Lft, Share, ftrue, flft}
 use types.Kit.{Given, ‵, _⊛_, _$_, _∵_, !, qed, by, move, use1, fsplit, fjoin}
 use types.Part.{agg}
@@ -27,14 +27,11 @@ use ghost.Atoms.{Atoms}
 use contract.Lifetimes.{Lfts}
 use contract.Monad.{Fun}
 use contract.Running.{givenOf, tables, tablesOf}
-use sound.WpLaws.{WpFn-mono}
 use denote.RattleType.{RattleType, owns}
 use denote.Laws.{Is}
-use denote.Triple.Entry.{onEntry}
 use denote.Triple.Spec.{Meets, tripleOf}
 use denote.Triple.Table.{entered}
-use denote.Triple.Walked.{Stays, walkOf, walked, walk-meets}
-use Rattle.walking.proofs.Walking.{val, sets, freed, drops, drops-go, ends-plain}
+use Rattle.walking.proofs.Walking.{val, sets, freed, ends-plain, Outside, Walk, meets-plain}
 use Rattle.draw.specs.declared.Reader.{Reader}
 use Rattle.draw.proofs.Reader as T
 use Rattle.draw.proofs.Reader.Laws as T′
@@ -47,9 +44,6 @@ use Rattle.draw.proofs.new.Code as code
 abbrev B : Lfts 1 → RattleType
 B κs = T.the-row (namedLft 1 0 tt κs)
 
-abbrev stayed : Stays (f.ended .signature .params) (f.ended .kept)
-stayed = drops (f.ended .signature .params) (f.ended .kept)
-
 module _ {M : Type 1} (𝓤 : URA M) (H : Heap 𝓤) (A : Atoms 𝓤) (W : Given 𝓤 H A) (mem : Memory → SProp 𝓤) (run : Routine → Fun 𝓤) (𝓣 : Tables 𝓤 H) (κ : Lft) (q : Share) (s : RefT (List ℕ)) where
   abbrev v : Val
   v = sliceVal (s .ptr) (length (s .now))
@@ -58,10 +52,10 @@ module _ {M : Type 1} (𝓤 : URA M) (H : Heap 𝓤) (A : Atoms 𝓤) (W : Given
   made = record { words = s; at = 0 }
 
   -- what the triple binds outside
-  abbrev y : walkOf 𝓤 H A f.ended stayed (f.clauses 𝓤 H A mem run) .Ghost
+  abbrev y : Outside 𝓤 H A W f.ended (f.clauses 𝓤 H A mem run)
   y = (((κ, tt), (q, tt), tt, (s, tt), (v ∷ [], tt)), tt)
 
-  walk : Is (ShrSlice (named 0) κ u64) s (v ∷ []) → ent 𝓤 (onEntry 𝓤 H A f.signature (κ, tt) (q, tt) (y .0 .3) (y .0 .4)) (WpFn 𝓤 H (𝓣 .C) (𝓣 .Λ) code.function (v ∷ []) (walkOf 𝓤 H A f.ended stayed (f.clauses 𝓤 H A mem run) .post y))
+  walk : Is (ShrSlice (named 0) κ u64) s (v ∷ []) → Walk 𝓤 H A W f.ended (f.clauses 𝓤 H A mem run) 𝓣 code.function y
   walk p =
       qed W ((‵ (flft κ q) ⊛ ‵ ftrue) ∷ ‵ (owns (ShrSlice (named 0) κ u64 ∷ []) (y .0 .3) (y .0 .4)) ∷ []) ∵ enter ! (𝓣 .C) (𝓣 .Λ) code.function (v ∷ []) _ $
       alloc1 ! (λ l₀. alloc1 ! (λ l₁. alloc0 ! $ params1 ! $ pass1 ! (init ! 0 refl (shr-slice-lawful 𝓤 H A W (named 0) κ u64 .typed s (v ∷ []) p .0)) $ pass0 ! $
@@ -75,9 +69,8 @@ module _ {M : Type 1} (𝓤 : URA M) (H : Heap 𝓤) (A : Atoms 𝓤) (W : Given
 meets : {M : Type 1} (𝓤 : URA M) (H : Heap 𝓤) (A : Atoms 𝓤) → Given 𝓤 H A → (mem : Memory → SProp 𝓤) (run : Routine → Fun 𝓤) (𝓣 : Tables 𝓤 H)
     → Meets 𝓤 H A f.signature (WpFn 𝓤 H (𝓣 .C) (𝓣 .Λ) code.function) (f.spec 𝓤 H A mem run)
 meets 𝓤 H A W mem run 𝓣 =
-    walk-meets 𝓤 H A f.ended stayed W (drops-go 𝓤 H A W 1 (f.ended .signature .params) (f.ended .kept) ((λ κs x k. refl), tt)) (f.clauses 𝓤 H A mem run) (WpFn 𝓤 H (𝓣 .C) (𝓣 .Λ) code.function) (WpFn-mono 𝓤 H (W .laws) 𝓣 code.function)
-    (walked 𝓤 H A f.ended stayed (f.clauses 𝓤 H A mem run) (WpFn 𝓤 H (𝓣 .C) (𝓣 .Λ) code.function) (λ κs. (slice-vals, tt)) (λ κs. (shr-slice-tells (named 0) (κs .0) u64, tt))
-    (λ κs qs bounds a g are. via 𝓤 _ (fst∗ 𝓤 _ (emp 𝓤)) (walk 𝓤 H A W mem run 𝓣 (κs .0) (qs .0) (a .0) (are .0))))
+    meets-plain 𝓤 H A W f.ended (f.clauses 𝓤 H A mem run) ((λ κs x k. refl), tt) 𝓣 code.function (λ κs. (slice-vals, tt)) (λ κs. (shr-slice-tells (named 0) (κs .0) u64, tt))
+    (λ κs qs bounds a g are. via 𝓤 _ (fst∗ 𝓤 _ (emp 𝓤)) (walk 𝓤 H A W mem run 𝓣 (κs .0) (qs .0) (a .0) (are .0)))
 
 pub new-spec : {M : Type 1} → stated.statement M
 unfolding code.routine tablesOf
