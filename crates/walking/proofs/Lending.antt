@@ -15,14 +15,14 @@ use base.Logic.{SProp, ent, sep, ex}
 use base.Fml.{Lft, GName, Fml, ftrue, fsep, fat, fdead, flent}
 use prog.Wp.{Heap}
 use ghost.Atoms.{Atoms, sem}
-use types.Kit.{Given, ‵, raw, _⊛_, some, later, _$_, _∵_, !, qed, by, move, keep, drop as forgo, use1, use2, split, pick, rewrite, fsplit, fjoin, fpick, fpack, feqL, feqI, frame, await, updating, now as at-once, show, done}
+use types.Kit.{Given, ‵, _⊛_, some, later, _$_, _∵_, !, qed, move, drop as forgo, use1, use2, split, pick, rewrite, fsplit, fjoin, fpick, fpack, feqL, feqI, frame, await, updating, now as at-once, show, done}
 use types.Tokens.{lent-back}
-use types.Share.{parts, arr-parts}
+use types.Share.{arr-parts}
 use denote.RattleType.{RattleType}
 use denote.Array.{Array, arrayVal}
 use denote.ArrayMemory.{Single, array-apart, array-whole}
 use denote.Index.{place, row}
-use denote.Lend.{LentShrs, lends-shr-slice}
+use denote.Lend.{lends-shr-slice}
 use denote.Memory.{lone, cellAt, partAt, partOf, mem, shares}
 use denote.Slice.{sliceVal, ShrSlice, Room}
 use denote.Steps.{nothing}

@@ -1,5 +1,4 @@
 -- `round::reach` meets its contract: it sums all lifts. Assumes nothing.
-use borrow.Author.Needs.{needs}
 use native.Mathlib.Nat.{le-refl}
 use Rattle.round.proofs.Walks.{reach-all}
 use Rattle.round.proofs.reach.Statement.{statement}
