@@ -13,7 +13,7 @@ pub enum Drawn {
 }
 
 // A reader of random words: the list, and how far it has got.
-pub struct Reader<'a> {
+struct Reader<'a> {
     words: &'a [u64],
     at: usize,
 }
@@ -36,28 +36,28 @@ fn below(words: &[u64], at: usize, bound: u64) -> Drawn
 }
 
 // A reader that stands at the first word.
-pub fn new<'a>(words: &'a [u64]) -> Reader<'a>
+fn new<'a>(words: &'a [u64]) -> Reader<'a>
     ensures { λ r. ⌜ (r .words ≡ words .entry) × (r .at ≡ 0) ⌝ }
 {
     Reader { words, at: 0 }
 }
 
-// The reader, moved to another position.
-pub fn moved<'a>(r: Reader<'a>, at: usize) -> Reader<'a>
+// The reader, moved on to position `at`.
+fn moved<'a>(r: Reader<'a>, at: usize) -> Reader<'a>
     ensures { λ q. ⌜ (q .words ≡ r .entry .words) × (q .at ≡ at) ⌝ }
 {
     Reader { words: r.words, at }
 }
 
 // A draw below `bound` from where the reader stands.
-pub fn draw<'a>(r: Reader<'a>, bound: u64) -> Drawn
+fn draw<'a>(r: Reader<'a>, bound: u64) -> Drawn
     requires { ⌜ 1 ≤ bound ⌝ }
     ensures { λ x. ⌜ (x ≡ drawAt largest (now (r .entry .words)) (r .entry .at) bound) × ExactlyK largest bound ⌝ }
 {
     below(r.words, r.at, bound)
 }
 
-// A draw below `bound` that reads `words` from position `at` on: what every other crate calls.
+// A draw below `bound` that reads `words` from position `at` on.
 pub fn draw_from(words: &[u64], at: usize, bound: u64) -> Drawn
     requires { ⌜ 1 ≤ bound ⌝ }
     ensures { λ x. ⌜ (x ≡ drawAt largest (now (words .entry)) at bound) × ExactlyK largest bound ⌝ }

@@ -4,7 +4,6 @@ use mathlib.Core.Path.{_≡_, refl, sym, _∙_}
 use mathlib.Core.Bool.{Bool, true, false}
 use mathlib.Core.List.{List, map}
 use borrow.Author.Tests.{lt-ltb, le-ltb, le-leb, lt-leb}
-use lib.ListN.{getD}
 use Rattle.laws.specs.Interval.{pick}
 use Rattle.laws.specs.Plan.{Plan, draw}
 use Rattle.draw.specs.Draw.{drawAt}
@@ -13,7 +12,7 @@ use Rattle.draw.specs.declared.Drawn.{Drawn}
 use Rattle.draw.specs.declared.Drawn.the-variants.{Value, Short as Ended}
 use Rattle.round.specs.Round.{Weight, growth, G}
 use Rattle.round.specs.Choice.{Selection, selection, stayOr, replacement, keyfitz, plan, outcome, answer}
-use Rattle.round.specs.Slices.{lifts, scaled, scaleOf, wholly, drawGrowth}
+use Rattle.round.specs.Slices.{scaled, scaleOf, wholly, drawGrowth}
 use Rattle.round.specs.declared.Donors.{Donors}
 use Rattle.round.specs.declared.Held.{Held}
 use Rattle.round.specs.declared.Held.the-variants.{Neither, Single, Both}
@@ -21,7 +20,7 @@ use Rattle.round.specs.declared.Lift.{Lift}
 use Rattle.round.specs.declared.Scale.{Scale}
 use Rattle.round.specs.declared.Selected.{Selected}
 use Rattle.round.specs.declared.Selected.the-variants.{At, Short}
-use Rattle.round.proofs.Walks.{InSlices, weight-at}
+use Rattle.round.proofs.Loops.{Weighed, weight-at}
 use Rattle.round.proofs.Scales.{plan-neither, plan-single, plan-both}
 
 drew-answer : (h : Held) (v : ℕ) (r : Run Selection) → answer h (drew v r) ≡ answer h r
@@ -53,28 +52,28 @@ module _ (m : ℕ) (ws : List ℕ) (from : ℕ) (h : Held) where
 
   -- ---- Keyfitz's update
 
-  module _ {s : Scale} {ms ds bs : List ℕ} {i x : ℕ} (w : InSlices s ms ds bs i x) where
+  module _ {s : Scale} {ls : List Lift} {i x : ℕ} {l : Lift} (w : Weighed s ls i x l) where
     -- it stays with no draw
-    pub stays : {o : ℕ} → getD ms i 0 * x ≤ getD bs i 0 * s .new → o ≡ outcome h (selection i false)
-        → At i o from ≡ answer h (run m ws from (keyfitz (map (scaled s) (lifts ms ds bs)) i))
+    pub stays : {o : ℕ} → l .old * x ≤ l .new * s .new → o ≡ outcome h (selection i false)
+        → At i o from ≡ answer h (run m ws from (keyfitz (map (scaled s) ls) i))
     unfolding keyfitz stayOr run
     stays k y = rw (weight-at w, le-leb _ _ k, y)
 
-    module _ (shrinks : getD bs i 0 * s .new < getD ms i 0 * x) {d : Drawn} (p : d ≡ drawAt m ws from (getD ms i 0 * x)) where
+    module _ (shrinks : l .new * s .new < l .old * x) {d : Drawn} (p : d ≡ drawAt m ws from (l .old * x)) where
       -- it stays by the draw r
-      pub kept : {r n o : ℕ} → d ≡ Value r n → r < getD bs i 0 * s .new → o ≡ outcome h (selection i false)
-          → At i o n ≡ answer h (run m ws from (keyfitz (map (scaled s) (lifts ms ds bs)) i))
+      pub kept : {r n o : ℕ} → d ≡ Value r n → r < l .new * s .new → o ≡ outcome h (selection i false)
+          → At i o n ≡ answer h (run m ws from (keyfitz (map (scaled s) ls) i))
       unfolding keyfitz stayOr run
       kept q k y = rw (weight-at w, lt-leb _ _ shrinks, value-answer _ (sym p ∙ q), lt-ltb _ _ k, y)
 
       -- it is dropped by the draw r, and another takes its place
-      pub moved : {r n : ℕ} {a : Selected} → d ≡ Value r n → getD bs i 0 * s .new ≤ r
-          → a ≡ answer h (run m ws n (drawGrowth true (map (scaled s) (lifts ms ds bs))))
-          → a ≡ answer h (run m ws from (keyfitz (map (scaled s) (lifts ms ds bs)) i))
+      pub moved : {r n : ℕ} {a : Selected} → d ≡ Value r n → l .new * s .new ≤ r
+          → a ≡ answer h (run m ws n (drawGrowth true (map (scaled s) ls)))
+          → a ≡ answer h (run m ws from (keyfitz (map (scaled s) ls) i))
       unfolding keyfitz stayOr replacement drawGrowth
       moved q k y = rw (weight-at w, lt-leb _ _ shrinks, value-answer _ (sym p ∙ q), le-ltb _ _ k) y
 
-      pub update-short : d ≡ Ended → Short ≡ answer h (run m ws from (keyfitz (map (scaled s) (lifts ms ds bs)) i))
+      pub update-short : d ≡ Ended → Short ≡ answer h (run m ws from (keyfitz (map (scaled s) ls) i))
       unfolding keyfitz stayOr
       update-short q = rw (weight-at w, lt-leb _ _ shrinks, short-answer _ (sym p ∙ q))
 

@@ -6,6 +6,6 @@ pub mod Shares
 pub mod Keeping
 pub mod Laws
 pub mod Worked
-pub mod Walks
+pub mod Loops
 pub mod Scales
 pub mod Answers

@@ -23,7 +23,7 @@ use Rattle.round.specs.declared.Held.the-variants.{Neither, Single, Both
 use Rattle.round.specs.declared.Lift.{Lift}
 use Rattle.round.specs.declared.Scale.{Scale}
 use Rattle.round.proofs.Weights.{old-sum, new-sum, two-positive, weight-bound}
-use Rattle.round.proofs.Walks.{lifts-length}
+use Rattle.round.proofs.Loops.{lifts-length}
 
 -- ---- the multipliers of a round
 

@@ -68,10 +68,6 @@ pub record Callable (ds : Donors) (ls : List Lift) (h : Held) : Type 0 where
 
 -- ---- how the code computes
 
--- U of donor k goes by old measures and donors alone: the old measures stand in for the new ones
-unfoldable pub cameOf : ℕ → List ℕ → List ℕ → ℕ
-cameOf k ms ds = U k (lifts ms ds ms)
-
 -- what a donor's old measures are multiplied by
 abbrev pub multiplierOf : Scale → ℕ → ℕ
 multiplierOf s d = cond (eqb d 1) (s .first) (cond (eqb d 2) (s .second) 0)
@@ -104,13 +100,13 @@ pub record LiftRoom (s : Scale) (l : Lift) : Type 0 where
 pub record Balanced (s : Scale) (ls : List Lift) : Type 0 where
   pub sums : total (map (λ l. scaled s l .old) ls) ≡ total (map (λ l. scaled s l .new) ls)
 
--- the most lifts that are lent at a time: a round is searched by parts, each as long but the last
-abbrev pub partLength : ℕ
-partLength = 16
+-- the most lifts that are lent at a time: a round is searched by blocks, all as long but the last
+abbrev pub blockLength : ℕ
+blockLength = 16
 
--- where the part that begins at place a ends, in a round of n lifts
-abbrev pub partEnd : ℕ → ℕ → ℕ
-partEnd a n = cond (ltb (n - a) partLength) n (a + partLength)
+-- where the block that begins at place a ends, in a round of n lifts
+abbrev pub blockEnd : ℕ → ℕ → ℕ
+blockEnd a n = cond (ltb (n - a) blockLength) n (a + blockLength)
 
 -- the lifts from place a up to place e
 abbrev pub between : ℕ → ℕ → List Lift → List Lift

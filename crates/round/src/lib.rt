@@ -7,9 +7,9 @@ ghost use lib.ListN.{length, take};
 ghost use Rattle.laws.specs.Interval.{pick as pickOf};
 ghost use Rattle.draw.specs.Draw.{largest};
 ghost use Rattle.draw.specs.Run.{run};
-ghost use Rattle.round.specs.Round.{G, growth, sent, Fitting};
+ghost use Rattle.round.specs.Round.{liftAt, U, sent as sentOf, growth, G, Fitting};
 ghost use Rattle.round.specs.Choice.{keyfitz, isHeld, outcome as outcomeOf, selection, answer, selected};
-ghost use Rattle.round.specs.Slices.{lift, lifts, Level, partLength, partEnd, between, cameOf, multiplierOf, scaled, scaleOf, Room, LiftRoom, Balanced, Bounded, Callable, drawGrowth};
+ghost use Rattle.round.specs.Slices.{lifts, Level, Bounded, Callable, multiplierOf, scaled, scaleOf, Room, LiftRoom, Balanced, blockLength, blockEnd, between, drawGrowth};
 use draw::Drawn;
 
 // The donors of a round, with their whole old sums T.
@@ -57,7 +57,7 @@ const WHOLLY: Scale = Scale {
 };
 
 // The most lifts that are lent at a time.
-const PART: usize = 16;
+const BLOCK: usize = 16;
 
 // What the old measures of a donor are multiplied by.
 fn multiplier(s: Scale, donor: u8) -> u64
@@ -85,8 +85,21 @@ fn interval(s: Scale, l: Lift) -> u64
     0
 }
 
+// The lift at a place of the slices.
+fn lift_at(old: &[u64], donor: &[u8], new: &[u64], i: usize) -> Lift
+    requires { ⌜ Level (now old) (now donor) (now new) ⌝ }
+    requires { ⌜ i < length (now old) ⌝ }
+    ensures { λ r. ⌜ r ≡ liftAt (lifts (now (old .entry)) (now (donor .entry)) (now (new .entry))) i ⌝ }
+{
+    Lift {
+        old: old[i],
+        donor: donor[i],
+        new: new[i],
+    }
+}
+
 // The sum of the intervals of the lifts from place a up to place e.
-fn reach_part(s: Scale, old: &[u64], donor: &[u8], new: &[u64], a: usize, e: usize) -> u64
+fn reach_between(s: Scale, old: &[u64], donor: &[u8], new: &[u64], a: usize, e: usize) -> u64
     requires { ⌜ Level (now old) (now donor) (now new) ⌝ }
     requires { ⌜ Room s (lifts (now old) (now donor) (now new)) ⌝ }
     requires { ⌜ e ≤ length (now old) ⌝ }
@@ -95,12 +108,7 @@ fn reach_part(s: Scale, old: &[u64], donor: &[u8], new: &[u64], a: usize, e: usi
     let mut sum: u64 = 0;
     let mut i = a;
     while i < e {
-        let l = Lift {
-            old: old[i],
-            donor: donor[i],
-            new: new[i],
-        };
-        sum += interval(s, l);
+        sum += interval(s, lift_at(old, donor, new, i));
         i += 1;
     }
     sum
@@ -112,7 +120,7 @@ fn reach(s: Scale, old: &[u64], donor: &[u8], new: &[u64]) -> u64
     requires { ⌜ Room s (lifts (now old) (now donor) (now new)) ⌝ }
     ensures { λ r. ⌜ r ≡ G (map (scaled s) (lifts (now (old .entry)) (now (donor .entry)) (now (new .entry)))) ⌝ }
 {
-    reach_part(s, old, donor, new, 0, old.len())
+    reach_between(s, old, donor, new, 0, old.len())
 }
 
 // The place, among the lifts lent, of the one in whose interval the position q falls.
@@ -133,30 +141,30 @@ fn pick(lifts: &[Lift], s: Scale, q: u64) -> usize
     i
 }
 
-// The same among the first n lifts of a part, which it lends.
-fn pick_first(part: [Lift; PART], n: usize, s: Scale, q: u64) -> usize
-    requires { ⌜ (n ≤ partLength) × Room s (take n part) ⌝ }
-    ensures { λ r. ⌜ r ≡ pickOf (map growth (map (scaled s) (take n part))) q ⌝ }
+// The same among the first n lifts of a block, which it lends.
+fn pick_first(block: [Lift; BLOCK], n: usize, s: Scale, q: u64) -> usize
+    requires { ⌜ (n ≤ blockLength) × Room s (take n block) ⌝ }
+    ensures { λ r. ⌜ r ≡ pickOf (map growth (map (scaled s) (take n block))) q ⌝ }
 {
-    pick(&part[..n], s, q)
+    pick(&block[..n], s, q)
 }
 
-// Where the part that begins at place a ends, in a round of n lifts.
-fn part_end(a: usize, n: usize) -> usize
+// Where the block that begins at place a ends, in a round of n lifts.
+fn block_end(a: usize, n: usize) -> usize
     requires { ⌜ a ≤ n ⌝ }
-    ensures { λ r. ⌜ r ≡ partEnd a n ⌝ }
+    ensures { λ r. ⌜ r ≡ blockEnd a n ⌝ }
 {
-    if n - a < PART {
+    if n - a < BLOCK {
         return n;
     }
-    a + PART
+    a + BLOCK
 }
 
-// The lifts from place a up to place e, at the start of a part.
-fn gathered(old: &[u64], donor: &[u8], new: &[u64], a: usize, e: usize) -> [Lift; PART]
+// The lifts from place a up to place e, at the start of a block.
+fn gathered(old: &[u64], donor: &[u8], new: &[u64], a: usize, e: usize) -> [Lift; BLOCK]
     requires { ⌜ Level (now old) (now donor) (now new) ⌝ }
     requires { ⌜ (a ≤ e) × (e ≤ length (now old)) ⌝ }
-    requires { ⌜ e - a ≤ partLength ⌝ }
+    requires { ⌜ e - a ≤ blockLength ⌝ }
     ensures { λ r. ⌜ take (e - a) r ≡ between a e (lifts (now (old .entry)) (now (donor .entry)) (now (new .entry))) ⌝ }
 {
     let none = Lift {
@@ -164,20 +172,16 @@ fn gathered(old: &[u64], donor: &[u8], new: &[u64], a: usize, e: usize) -> [Lift
         donor: 0,
         new: 0,
     };
-    let mut part = [none; PART];
+    let mut block = [none; BLOCK];
     let mut i = a;
     while i < e {
-        part[i - a] = Lift {
-            old: old[i],
-            donor: donor[i],
-            new: new[i],
-        };
+        block[i - a] = lift_at(old, donor, new, i);
         i += 1;
     }
-    part
+    block
 }
 
-// The place of the lift in whose interval the position q falls: first the part is found by the sums of parts, then the lift in it.
+// The place of the lift in whose interval the position q falls: its block is found by the sums of blocks, and then lent.
 fn pick_lift(s: Scale, old: &[u64], donor: &[u8], new: &[u64], q: u64) -> usize
     requires { ⌜ Level (now old) (now donor) (now new) ⌝ }
     requires { ⌜ Room s (lifts (now old) (now donor) (now new)) ⌝ }
@@ -186,11 +190,11 @@ fn pick_lift(s: Scale, old: &[u64], donor: &[u8], new: &[u64], q: u64) -> usize
     let mut left = q;
     let mut i = 0;
     while i < old.len() {
-        let e = part_end(i, old.len());
-        let w = reach_part(s, old, donor, new, i, e);
+        let e = block_end(i, old.len());
+        let w = reach_between(s, old, donor, new, i, e);
         if left < w {
-            let part = gathered(old, donor, new, i, e);
-            return i + pick_first(part, e - i, s, left);
+            let block = gathered(old, donor, new, i, e);
+            return i + pick_first(block, e - i, s, left);
         }
         left -= w;
         i = e;
@@ -199,25 +203,25 @@ fn pick_lift(s: Scale, old: &[u64], donor: &[u8], new: &[u64], q: u64) -> usize
 }
 
 // A lift's old measure where it comes from donor k, else 0.
-fn part(old: u64, donor: u8, k: u8) -> u64
-    ensures { λ r. ⌜ r ≡ sent k (lift old donor 0) ⌝ }
+fn sent(l: Lift, k: u8) -> u64
+    ensures { λ r. ⌜ r ≡ sentOf k l ⌝ }
 {
-    if donor == k {
-        return old;
+    if l.donor == k {
+        return l.old;
     }
     0
 }
 
 // U: the part of donor k's old sum that came here.
-fn came(old: &[u64], donor: &[u8], k: u8) -> u64
-    requires { ⌜ Level (now old) (now donor) (now old) ⌝ }
-    requires { ⌜ cameOf k (now old) (now donor) ≤ 2 ^ 61 ⌝ }
-    ensures { λ r. ⌜ r ≡ cameOf k (now (old .entry)) (now (donor .entry)) ⌝ }
+fn came(old: &[u64], donor: &[u8], new: &[u64], k: u8) -> u64
+    requires { ⌜ Level (now old) (now donor) (now new) ⌝ }
+    requires { ⌜ U k (lifts (now old) (now donor) (now new)) ≤ 2 ^ 61 ⌝ }
+    ensures { λ r. ⌜ r ≡ U k (lifts (now (old .entry)) (now (donor .entry)) (now (new .entry))) ⌝ }
 {
     let mut sum: u64 = 0;
     let mut i = 0;
     while i < old.len() {
-        sum += part(old[i], donor[i], k);
+        sum += sent(lift_at(old, donor, new, i), k);
         i += 1;
     }
     sum
@@ -239,7 +243,7 @@ fn scaling(old: &[u64], donor: &[u8], new: &[u64], donors: Donors) -> Scale
         },
         Donors::One(_) => {
             let s = reach(WHOLLY, old, donor, new);
-            let u = came(old, donor, 1);
+            let u = came(old, donor, new, 1);
             Scale {
                 new: u,
                 first: s,
@@ -249,8 +253,8 @@ fn scaling(old: &[u64], donor: &[u8], new: &[u64], donors: Donors) -> Scale
         }
         Donors::Two(t1, t2) => {
             let s = reach(WHOLLY, old, donor, new);
-            let u1 = came(old, donor, 1);
-            let u2 = came(old, donor, 2);
+            let u1 = came(old, donor, new, 1);
+            let u2 = came(old, donor, new, 2);
             let odds = u2 * t1;
             Scale {
                 new: u1 * t2 + odds,
@@ -329,8 +333,9 @@ fn update(
     requires { ⌜ i < length (now old) ⌝ }
     ensures { λ r. ⌜ r ≡ answer held (run largest (now (words .entry)) at (keyfitz (map (scaled s) (lifts (now (old .entry)) (now (donor .entry)) (now (new .entry)))) i)) ⌝ }
 {
-    let before = old[i] * multiplier(s, donor[i]);
-    let after = new[i] * s.new;
+    let l = lift_at(old, donor, new, i);
+    let before = l.old * multiplier(s, l.donor);
+    let after = l.new * s.new;
     if before <= after {
         return Selected::At(i, outcome(held, i, false), at);
     }

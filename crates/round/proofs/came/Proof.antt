@@ -1,37 +1,33 @@
--- `round::came` meets its contract: the sum so far and the parts of what is left are U. Assumes nothing.
+-- `round::came` meets its contract: the sum so far and what the lifts left bring are U. Assumes nothing.
 use borrow.Author.Needs.{needs}
+use native.Mathlib.Nat.{le-refl}
 use Prim.Native.Nat.{_-_}
 use lib.ListN.{length}
-use native.Mathlib.Nat.{le-refl}
-use Rattle.round.specs.Round.{sent}
-use Rattle.round.specs.Slices.{lifts, cameOf}
-use Rattle.round.proofs.Walks.{Summed, came-none, sum-turn, sum-fits, sum-end}
+use Rattle.round.specs.Round.{sent, U}
+use Rattle.round.specs.Slices.{lifts}
+use Rattle.round.proofs.Loops.{Summed, came-none, sum-turn, sum-fits, sum-end}
 use Rattle.round.proofs.came.Statement.{statement}
 use Rattle.round.proofs.came.Tie as tie
 
 abbrev Inv-loop : tie.InvT-loop
-Inv-loop old donor k sum₀ i₀ sum i = Summed (sent k) (lifts old donor old) (length old) (cameOf k old donor) sum i
+Inv-loop old donor new k sum₀ i₀ sum i = Summed (sent k) (lifts old donor new) (length old) (U k (lifts old donor new)) sum i
 
 abbrev μ-loop : tie.MeasureT-loop
-μ-loop old donor k sum₀ i₀ sum i = length old - i
+μ-loop old donor new k sum₀ i₀ sum i = length old - i
 
 loop-holds : tie.Need-loop-holds Inv-loop μ-loop
 loop-holds c = search came-none
 
-mul-part : tie.Need-mul-part Inv-loop μ-loop
-mul-part c = search needs
+lift-at-requires : tie.Need-lift-at-requires Inv-loop μ-loop
+lift-at-requires c κs = search needs
 
-shared-slice-read-part : tie.Need-shared-slice-read-part Inv-loop μ-loop
-shared-slice-read-part c = search needs
-
-shared-slice-read-part-2 : tie.Need-shared-slice-read-part-2 Inv-loop μ-loop
-shared-slice-read-part-2 c = search needs
-
-part-requires : tie.Need-part-requires Inv-loop μ-loop
-part-requires c κs = search needs
+sent-requires : tie.Need-sent-requires Inv-loop μ-loop
+sent-requires c κs = search needs
 
 add-sum : tie.Need-add-sum Inv-loop μ-loop
-add-sum c = search (sum-fits, le-refl)
+add-sum c =
+    let p = c .before .before .before .before .before .before .before .pre in
+    sum-fits (p .0) (le-refl _) (c .before .before .loop-test .taken) (c .before .lift-at .ensures) (c .sent .ensures) (c .before .before .before .loop .inv) (p .1)
 
 add-i : tie.Need-add-i Inv-loop μ-loop
 add-i c = search needs
@@ -52,10 +48,8 @@ came-spec =
     Inv-loop
     μ-loop
     loop-holds
-    mul-part
-    shared-slice-read-part
-    shared-slice-read-part-2
-    part-requires
+    lift-at-requires
+    sent-requires
     add-sum
     add-i
     loop-less

@@ -1,43 +1,31 @@
--- `round::gathered` meets its contract: the lifts passed stand at the start of the array. Assumes nothing.
+-- `round::gathered` meets its contract: the lifts passed stand at the start of the block. Assumes nothing.
 use borrow.Author.Needs.{needs}
 use Prim.Native.Nat.{_-_}
 use Rattle.round.specs.Slices.{lifts}
-use Rattle.round.proofs.Walks.{Gathered, gather-none, gather-turn, gather-end}
+use Rattle.round.proofs.Loops.{Gathered, gather-none, gather-turn, gather-end}
 use Rattle.round.proofs.gathered.Statement.{statement}
 use Rattle.round.proofs.gathered.Tie as tie
 
 abbrev Inv-loop : tie.InvT-loop
-Inv-loop old donor new a e part₀ i₀ part i = Gathered (lifts old donor new) part a e i
+Inv-loop old donor new a e block₀ i₀ block i = Gathered (lifts old donor new) block a e i
 
 abbrev μ-loop : tie.MeasureT-loop
-μ-loop old donor new a e part₀ i₀ part i = e - i
+μ-loop old donor new a e block₀ i₀ block i = e - i
 
 loop-holds : tie.Need-loop-holds Inv-loop μ-loop
 loop-holds c = search gather-none
 
-mul-t10 : tie.Need-mul-t10 Inv-loop μ-loop
-mul-t10 c = search needs
+lift-at-requires : tie.Need-lift-at-requires Inv-loop μ-loop
+lift-at-requires c κs = search needs
 
-shared-slice-read-t12 : tie.Need-shared-slice-read-t12 Inv-loop μ-loop
-shared-slice-read-t12 c = search needs
+sub-block : tie.Need-sub-block Inv-loop μ-loop
+sub-block c = search needs
 
-shared-slice-read-t14 : tie.Need-shared-slice-read-t14 Inv-loop μ-loop
-shared-slice-read-t14 c = search needs
+mul-block : tie.Need-mul-block Inv-loop μ-loop
+mul-block c = search needs
 
-mul-t15 : tie.Need-mul-t15 Inv-loop μ-loop
-mul-t15 c = search needs
-
-shared-slice-read-t17 : tie.Need-shared-slice-read-t17 Inv-loop μ-loop
-shared-slice-read-t17 c = search needs
-
-sub-part : tie.Need-sub-part Inv-loop μ-loop
-sub-part c = search needs
-
-mul-part : tie.Need-mul-part Inv-loop μ-loop
-mul-part c = search needs
-
-array-set-from-part : tie.Need-array-set-from-part Inv-loop μ-loop
-array-set-from-part c = search needs
+array-set-from-block : tie.Need-array-set-from-block Inv-loop μ-loop
+array-set-from-block c = search needs
 
 add-i : tie.Need-add-i Inv-loop μ-loop
 add-i c = search needs
@@ -58,14 +46,10 @@ gathered-spec =
     Inv-loop
     μ-loop
     loop-holds
-    mul-t10
-    shared-slice-read-t12
-    shared-slice-read-t14
-    mul-t15
-    shared-slice-read-t17
-    sub-part
-    mul-part
-    array-set-from-part
+    lift-at-requires
+    sub-block
+    mul-block
+    array-set-from-block
     add-i
     loop-less
     loop-again

@@ -46,7 +46,7 @@ use Rattle.round.specs.Slices.{lift, scaled, Room as WeightsRoom, LiftRo
 use Rattle.round.specs.declared.Lift.{Lift}
 use Rattle.round.specs.declared.Scale.{Scale}
 use Rattle.walking.proofs.Walking.{val, sets, calls-said, opens-elem, shuts-elem, on-bool, less, not-less, goes-in, passes-by, freed, ends-plain, Outside, Ending, Walk, meets-plain}
-use Rattle.round.proofs.Walks.{Sought, grows, pick-none, seek-turn, seek-here, seek-end, lift-room}
+use Rattle.round.proofs.Loops.{Sought, grows, pick-none, seek-turn, seek-here, seek-end, lift-room}
 use Rattle.round.proofs.Lift as T
 use Rattle.round.proofs.Lift.Laws as T′
 use Rattle.round.proofs.Scale as S

@@ -39,7 +39,7 @@ use denote.Triple.Table.{entered, cited}
 use denote.Triple.Walked.{says, needs}
 use Rattle.laws.specs.Interval.{pick as pickOf}
 use Rattle.round.specs.Round.{growth}
-use Rattle.round.specs.Slices.{scaled, partLength, Room as WeightsRoom}
+use Rattle.round.specs.Slices.{scaled, blockLength, Room as WeightsRoom}
 use Rattle.round.specs.declared.Lift.{Lift}
 use Rattle.round.specs.declared.Scale.{Scale}
 use Rattle.walking.proofs.Walking.{val, sets, calls-said, freed, ends-plain, Outside, Walk, meets-plain}
@@ -57,7 +57,7 @@ use Rattle.round.proofs.pick_first as f
 use Rattle.round.proofs.pick_first.Statement as stated
 use Rattle.round.proofs.pick_first.Code as code
 
-few : (n : ℕ) → n ≤ partLength → (n < 2 ^ 64) × (n * 24 < 2 ^ 63)
+few : (n : ℕ) → n ≤ blockLength → (n < 2 ^ 64) × (n * 24 < 2 ^ 63)
 few n l = (omega (arith, l), omega (arith, l))
 
 module _ {M : Type 1} (𝓤 : URA M) (H : Heap 𝓤) (A : Atoms 𝓤) (mem : Memory → SProp 𝓤) (run : Routine → Fun 𝓤) where
@@ -100,28 +100,28 @@ module _ {M : Type 1} (𝓤 : URA M) (H : Heap 𝓤) (A : Atoms 𝓤) (W : Given
   abbrev slice : Ty
   slice = sliceTy (tyRef erased imm (pointee (T.the-row .written)))
 
-  module _ (known : Triple 𝓤 (𝓣 .C #round·pick) (Pick 𝓤 H A mem run)) (is-a : Is (Array T.the-row partLength) xs (mach ∷ [])) (gn : n < 2 ^ 64) (is-s : Is S.the-row sc (sv ∷ [])) (within : n ≤ partLength) (room : WeightsRoom sc (take n xs)) where
+  module _ (known : Triple 𝓤 (𝓣 .C #round·pick) (Pick 𝓤 H A mem run)) (is-a : Is (Array T.the-row blockLength) xs (mach ∷ [])) (gn : n < 2 ^ 64) (is-s : Is S.the-row sc (sv ∷ [])) (within : n ≤ blockLength) (room : WeightsRoom sc (take n xs)) where
     long : length (take n xs) ≡ n
     long = length-take-le n xs (subst (λ (m : ℕ). n ≤ m) (sym (is-a .1 .0 .1)) within)
 
     walk : Walk 𝓤 H A W f.ended (f.clauses 𝓤 H A mem run) 𝓣 code.function y
     walk =
-        qed W (‵ ftrue ∷ ‵ (owns (Array T.the-row partLength ∷ usize ∷ S.the-row ∷ u64 ∷ []) (y .0 .3) (y .0 .4)) ∷ []) ∵ enter ! (𝓣 .C) (𝓣 .Λ) code.function (mach ∷ vint w64 n ∷ sv ∷ vint w64 qa ∷ []) _ $
+        qed W (‵ ftrue ∷ ‵ (owns (Array T.the-row blockLength ∷ usize ∷ S.the-row ∷ u64 ∷ []) (y .0 .3) (y .0 .4)) ∷ []) ∵ enter ! (𝓣 .C) (𝓣 .Λ) code.function (mach ∷ vint w64 n ∷ sv ∷ vint w64 qa ∷ []) _ $
         alloc1 ! (λ l₀. alloc1 ! (λ l₁. alloc1 ! (λ l₂. alloc1 ! (λ l₃. alloc1 ! (λ l₄. alloc1 ! (λ l₅. alloc1 ! (λ l₆. alloc1 ! (λ l₇. alloc0 ! $ params1 ! $
-        pass1 ! (init ! 12 refl (array-lawful 𝓤 H A W T.the-row (LL.lawful T.the-type T′.the-laws 𝓤 H A W) partLength .typed xs _ is-a .0)) $ pass1 ! (init ! 10 refl (tt, record { fits = gn })) $ pass1 ! (init ! 8 refl (LL.lawful S.the-type S′.the-laws 𝓤 H A W .typed sc _ is-s .0)) $ pass1 ! (init ! 6 refl (tt, record { fits = gq })) $ pass0 ! $
-        sets ! (of-opd ! (val ! (look ! 12 refl))) (init ! 4 refl (array-lawful 𝓤 H A W T.the-row (LL.lawful T.the-type T′.the-laws 𝓤 H A W) partLength .typed xs _ is-a .0)) $
+        pass1 ! (init ! 12 refl (array-lawful 𝓤 H A W T.the-row (LL.lawful T.the-type T′.the-laws 𝓤 H A W) blockLength .typed xs _ is-a .0)) $ pass1 ! (init ! 10 refl (tt, record { fits = gn })) $ pass1 ! (init ! 8 refl (LL.lawful S.the-type S′.the-laws 𝓤 H A W .typed sc _ is-s .0)) $ pass1 ! (init ! 6 refl (tt, record { fits = gq })) $ pass0 ! $
+        sets ! (of-opd ! (val ! (look ! 12 refl))) (init ! 4 refl (array-lawful 𝓤 H A W T.the-row (LL.lawful T.the-type T′.the-laws 𝓤 H A W) blockLength .typed xs _ is-a .0)) $
         sets ! (addr ! (from ! (stop !))) (init ! 2 refl (tt, tt)) $ sets ! (agg ! (and-then ! (val ! (look ! 2 refl)) (and-then ! (val ! (look ! 10 refl)) (no-more !)))) (init ! 0 refl (tt, (tt, (record { fits = gn }, tt)))) $
         rewrite ! 0 (λ (m : ℕ). ‵ (fat fullShare slice l₇ 0 (sliceVal (l₅, 0) m))) (sym long) refl $
         -- the first n lifts are lent, for a lifetime ν of the call
-        lft-new ! tt (λ ν. owned ! (Array T.the-row partLength) (Is (Array T.the-row partLength)) (array-makes 𝓤 H A W T.the-row (LL.makes T.the-type T′.the-plain 𝓤 H A) partLength) xs _ is-a $ move ! (6 ∷ 0 ∷ []) $
-        use2 W (later (some (λ (γ : GName). ‵ (Own ν l₅ γ) ⊛ ‵ (Lender 𝓤 H A W T.the-row (ν ∷ []) partLength xs n l₅)))) (lends-first 𝓤 H A W T.the-row (ν ∷ []) partLength xs n l₅ (named 0) mach tt (subst (Room T.the-row) (sym long) (few n within))) $ await ! tt $ choose ! (λ γ. split ! $
+        lft-new ! tt (λ ν. owned ! (Array T.the-row blockLength) (Is (Array T.the-row blockLength)) (array-makes 𝓤 H A W T.the-row (LL.makes T.the-type T′.the-plain 𝓤 H A) blockLength) xs _ is-a $ move ! (6 ∷ 0 ∷ []) $
+        use2 W (later (some (λ (γ : GName). ‵ (Own ν l₅ γ) ⊛ ‵ (Lender 𝓤 H A W T.the-row (ν ∷ []) blockLength xs n l₅)))) (lends-first 𝓤 H A W T.the-row (ν ∷ []) blockLength xs n l₅ (named 0) mach tt (subst (Room T.the-row) (sym long) (few n within))) $ await ! tt $ choose ! (λ γ. split ! $
         -- [the slice; the lender's part; the token; _7; …; _6; …; that _5 dies; _4; …; _3; …; _2; …; _1; …; _0; …; …]
         move ! (2 ∷ 0 ∷ []) $ use2 W (raw (Pick 𝓤 H A mem run .pre (to ν l₅ γ))) (goes ν l₅ γ is-s room) $
         calls-said ! pick.ended (pick.clauses 𝓤 H A mem run) (fmOf 𝓤 H (W .laws) 𝓣) (to ν l₅ γ) (known (to ν l₅ γ)) (λ r. r ≡ pickOf (map growth (map (scaled sc) (take n xs))) qa) (λ r ws. refl)
         (and-then ! (val ! (look ! 2 refl)) (and-then ! (val ! (look ! 9 refl)) (and-then ! (val ! (look ! 7 refl)) (no-more !)))) (λ u r e. facts ! usize (Is usize) (shows 𝓤 H A usize) r (u ∷ []) (λ is.
         land ! (from ! (stop !)) (init ! 15 refl (uint-lawful 𝓤 H A W w64 .typed r _ is .0)) $
         -- the lifetime is over, and the array is back
-        use1 W (‵ (flft (ν ∷ []) fullShare) ⊛ ‵ ftrue) (id⊢ 𝓤 _) $ split ! $ lft-end ! tt $ move ! (0 ∷ 2 ∷ []) $ use2 W (later (some (λ (w : Val). ‵ (fat fullShare (tyArray T′.mir partLength) l₅ 0 w)))) (first-back 𝓤 H A W T.the-row (ν ∷ []) partLength xs n l₅ (is-a .1 .0 .1)) $ await ! tt $ choose ! (λ w.
+        use1 W (‵ (flft (ν ∷ []) fullShare) ⊛ ‵ ftrue) (id⊢ 𝓤 _) $ split ! $ lft-end ! tt $ move ! (0 ∷ 2 ∷ []) $ use2 W (later (some (λ (w : Val). ‵ (fat fullShare (tyArray T′.mir blockLength) l₅ 0 w)))) (first-back 𝓤 H A W T.the-row (ν ∷ []) blockLength xs n l₅ (is-a .1 .0 .1)) $ await ! tt $ choose ! (λ w.
         returns ! (look ! 15 refl) $ move ! (15 ∷ 16 ∷ 13 ∷ 14 ∷ 11 ∷ 12 ∷ 9 ∷ 10 ∷ 7 ∷ 8 ∷ 0 ∷ 6 ∷ 4 ∷ 5 ∷ 2 ∷ 3 ∷ []) $ freed ! $ freed ! $ freed ! $ freed ! $ freed ! $ freed ! $ freed ! $ freed ! $ free0 ! $ keep ! (0 ∷ []) $
         owned ! usize (Is usize) (uint-makes 𝓤 H A W w64) r _ is $ move ! (1 ∷ 0 ∷ []) $ by ! (ends-plain 𝓤 H A W f.ended (f.clauses 𝓤 H A mem run) y u r (tt, (tt, (tt, (tt, tt)))) (tt, (tt, (tt, (tt, tt)))) refl e))))))))))))))
 
@@ -130,7 +130,7 @@ meets : {M : Type 1} (𝓤 : URA M) (H : Heap 𝓤) (A : Atoms 𝓤) → Given �
 meets 𝓤 H A W mem run 𝓣 known =
     meets-plain 𝓤 H A W f.ended (f.clauses 𝓤 H A mem run) ((λ κs x k. refl), ((λ κs x k. refl), ((λ κs x k. refl), ((λ κs x k. refl), tt)))) 𝓣 code.function
     (λ κs. (array-vals (LL.vals T.the-type T′.the-laws), (uint-vals w64, (LL.vals S.the-type S′.the-laws, (uint-vals w64, tt)))))
-    (λ κs. (array-tells T.the-row (LL.vals T.the-type T′.the-laws) (LL.tells T.the-type T′.the-laws) partLength, (uint-tells w64, (LL.tells S.the-type S′.the-laws, (uint-tells w64, tt)))))
+    (λ κs. (array-tells T.the-row (LL.vals T.the-type T′.the-laws) (LL.tells T.the-type T′.the-laws) blockLength, (uint-tells w64, (LL.tells S.the-type S′.the-laws, (uint-tells w64, tt)))))
     (λ κs qs bounds a g are. needs 𝓤 _ _ (λ ok. walk 𝓤 H A W mem run 𝓣 (a .0) (a .1 .0) (a .1 .1 .0) (a .1 .1 .1 .0) (are .1 .1 .1 .0 .1) known (are .0) (are .1 .0 .1) (are .1 .1 .0) (ok .0) (ok .1)))
 
 pub pick-first-spec : {M : Type 1} → stated.statement M

@@ -6,7 +6,7 @@ use lib.ListN.{length}
 use Rattle.laws.specs.Interval.{pick}
 use Rattle.round.specs.Round.{growth}
 use Rattle.round.specs.Slices.{lifts, scaled}
-use Rattle.round.proofs.Walks.{Sought, grows, pick-none, pick-end, part-less, part-from, part-inside, part-short, part-turn, part-fits, part-here, part-room}
+use Rattle.round.proofs.Loops.{Sought, grows, pick-none, pick-end, block-less, block-from, block-inside, block-short, block-turn, block-fits, block-here, block-room}
 use Rattle.round.proofs.pick_lift.Statement.{statement}
 use Rattle.round.proofs.pick_lift.Tie as tie
 
@@ -19,32 +19,32 @@ abbrev μ-loop : tie.MeasureT-loop
 loop-holds : tie.Need-loop-holds Inv-loop μ-loop
 loop-holds c = search pick-none
 
-part-end-requires : tie.Need-part-end-requires Inv-loop μ-loop
-part-end-requires c κs = search needs
+block-end-requires : tie.Need-block-end-requires Inv-loop μ-loop
+block-end-requires c κs = search needs
 
-reach-part-requires : tie.Need-reach-part-requires Inv-loop μ-loop
-reach-part-requires c κs = search part-inside
+reach-between-requires : tie.Need-reach-between-requires Inv-loop μ-loop
+reach-between-requires c κs = search block-inside
 
 gathered-requires : tie.Need-gathered-requires Inv-loop μ-loop
-gathered-requires c κs = search (part-from, part-inside, part-short)
+gathered-requires c κs = search (block-from, block-inside, block-short)
 
 sub-pick-first : tie.Need-sub-pick-first Inv-loop μ-loop
-sub-pick-first c = search part-from
+sub-pick-first c = search block-from
 
 pick-first-requires : tie.Need-pick-first-requires Inv-loop μ-loop
-pick-first-requires c κs = search (part-short, part-room)
+pick-first-requires c κs = search (block-short, block-room)
 
 add-result : tie.Need-add-result Inv-loop μ-loop
-add-result c = search part-fits
+add-result c = search block-fits
 
 returns : tie.Need-returns Inv-loop μ-loop
-returns c = search part-here
+returns c = search block-here
 
 loop-less : tie.Need-loop-less Inv-loop μ-loop
-loop-less c = search part-less
+loop-less c = search block-less
 
 loop-again : tie.Need-loop-again Inv-loop μ-loop
-loop-again c = search part-turn
+loop-again c = search block-turn
 
 returns-2 : tie.Need-returns-2 Inv-loop μ-loop
 returns-2 c = search pick-end
@@ -56,8 +56,8 @@ pick-lift-spec =
     Inv-loop
     μ-loop
     loop-holds
-    part-end-requires
-    reach-part-requires
+    block-end-requires
+    reach-between-requires
     gathered-requires
     sub-pick-first
     pick-first-requires

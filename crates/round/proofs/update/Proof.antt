@@ -1,46 +1,36 @@
 -- `round::update` meets its contract: one law for each way out; where the lift may be dropped, the growths have a sum above 0. Assumes nothing.
 use borrow.Author.Needs.{needs}
-use Rattle.round.proofs.Walks.{InSlices, old-fits, new-fits, moves-G}
+use native.Mathlib.Omega.{arith}
+use Rattle.round.specs.Slices.{lifts}
+use Rattle.round.proofs.Loops.{lifts-length, Weighed, old-fits, new-fits, moves-G}
 use Rattle.round.proofs.Answers.{stays, kept, moved, update-short}
 use Rattle.round.proofs.update.Statement.{statement}
 use Rattle.round.proofs.update.Tie as tie
 
 -- the lift at i, once its multiplier is known
 weighed : (c : tie.After-multiplier)
-    → let a = c .before .before .before .before .before .before .before .args in InSlices (a .s) (a .old .now) (a .donor .now) (a .new .now) (a .i) (c .multiplier .result)
+    → let a = c .before .before .before .before .before .before .args in Weighed (a .s) (lifts (a .old .now) (a .donor .now) (a .new .now)) (a .i) (c .multiplier .result) (c .before .lift-at .result)
 weighed c =
-    let p = c .before .before .before .before .before .before .before .pre in
-    record { level = p .0; inside = p .1 .1 .1; multiplies = c .multiplier .ensures }
+    let p = c .before .before .before .before .before .before .pre in
+    record { inside = omega (arith, lifts-length (p .0), p .1 .1 .1); reads = c .before .lift-at .ensures; multiplies = c .multiplier .ensures }
 
-mul-before : tie.Need-mul-before
-mul-before c = search needs
-
-shared-slice-read-before : tie.Need-shared-slice-read-before
-shared-slice-read-before c = search needs
-
-shared-slice-read-multiplier : tie.Need-shared-slice-read-multiplier
-shared-slice-read-multiplier c = search needs
+lift-at-requires : tie.Need-lift-at-requires
+lift-at-requires c κs = search needs
 
 multiplier-requires : tie.Need-multiplier-requires
 multiplier-requires c κs = search needs
 
-mul-before-2 : tie.Need-mul-before-2
-mul-before-2 c = search old-fits
+mul-before : tie.Need-mul-before
+mul-before c = old-fits (weighed (c .before)) (c .before .before .before .before .before .before .before .pre .1 .0)
 
 mul-after : tie.Need-mul-after
-mul-after c = search needs
-
-shared-slice-read-after : tie.Need-shared-slice-read-after
-shared-slice-read-after c = search needs
-
-mul-after-2 : tie.Need-mul-after-2
-mul-after-2 c = search new-fits
+mul-after c = new-fits (weighed (c .before .before .before)) (c .before .before .before .before .before .before .before .before .before .pre .1 .0)
 
 outcome-requires : tie.Need-outcome-requires
 outcome-requires c κs = search needs
 
 returns : tie.Need-returns
-returns c = search (stays, weighed (c .before .before .before .before), c .before .if1 .taken, c .outcome .ensures)
+returns c = search (stays, weighed (c .before .before .before .before .before), c .before .if1 .taken, c .outcome .ensures)
 
 draw-from-requires : tie.Need-draw-from-requires
 draw-from-requires c κs = search needs
@@ -54,34 +44,30 @@ outcome-requires-2 c κs = search needs
 draw-lift-requires : tie.Need-draw-lift-requires
 draw-lift-requires c κs =
     let b = c .before .before .before .before .before .before .before .before .before .before .before .before .before .before .before .pre .1 .1 .0 in
-    (search needs, (search needs, moves-G (weighed (c .before .before .before .before .before .before .before .before)) b (c .before .before .before .before .before .if1 .left)))
+    (search needs, (search needs, moves-G (weighed (c .before .before .before .before .before .before .before .before .before)) b (c .before .before .before .before .before .if1 .left)))
 
 enum-told : tie.Need-enum-told
 enum-told c = search needs
 
 returns-2 : tie.Need-returns-2
 returns-2 c =
-    let w = weighed (c .before .before .before .before .before .before .before .before .before) in
+    let w = weighed (c .before .before .before .before .before .before .before .before .before .before) in
     search (kept, w, c .before .before .before .before .before .before .if1 .left, c .before .if2 .taken, c .outcome2 .ensures)
 
 returns-3 : tie.Need-returns-3
-returns-3 c = search (moved, weighed (c .before .before .before .before .before .before .before .before .before))
+returns-3 c = search (moved, weighed (c .before .before .before .before .before .before .before .before .before .before))
 
 returns-4 : tie.Need-returns-4
-returns-4 c = search (update-short, weighed (c .before .before .before .before .before .before))
+returns-4 c = search (update-short, weighed (c .before .before .before .before .before .before .before))
 
 pub update-spec : {M : Type 1} → statement M
 update-spec =
     tie.close
     (tie.spec
-    mul-before
-    shared-slice-read-before
-    shared-slice-read-multiplier
+    lift-at-requires
     multiplier-requires
-    mul-before-2
+    mul-before
     mul-after
-    shared-slice-read-after
-    mul-after-2
     outcome-requires
     returns
     draw-from-requires

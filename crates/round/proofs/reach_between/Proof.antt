@@ -1,12 +1,12 @@
--- `round::reach_part` meets its contract: the sum so far and the growths from i up to e are G of the part. Assumes nothing.
+-- `round::reach_between` meets its contract: the sum so far and the growths from i up to e are G of the lifts from a up to e. Assumes nothing.
 use borrow.Author.Needs.{needs}
 use Prim.Native.Nat.{_-_}
 use mathlib.Core.List.{map}
 use Rattle.round.specs.Round.{G}
 use Rattle.round.specs.Slices.{lifts, scaled, between}
-use Rattle.round.proofs.Walks.{Summed, grows, reach-none, sum-turn, sum-fits, sum-end, G-room, read-room}
-use Rattle.round.proofs.reach_part.Statement.{statement}
-use Rattle.round.proofs.reach_part.Tie as tie
+use Rattle.round.proofs.Loops.{Summed, grows, reach-none, sum-turn, sum-fits, sum-end, G-room, read-room}
+use Rattle.round.proofs.reach_between.Statement.{statement}
+use Rattle.round.proofs.reach_between.Tie as tie
 
 abbrev Inv-loop : tie.InvT-loop
 Inv-loop s old donor new a e sum₀ i₀ sum i = Summed (grows s) (lifts old donor new) e (G (map (scaled s) (between a e (lifts old donor new)))) sum i
@@ -17,20 +17,8 @@ abbrev μ-loop : tie.MeasureT-loop
 loop-holds : tie.Need-loop-holds Inv-loop μ-loop
 loop-holds c = search reach-none
 
-mul-sum : tie.Need-mul-sum Inv-loop μ-loop
-mul-sum c = search needs
-
-shared-slice-read-sum : tie.Need-shared-slice-read-sum Inv-loop μ-loop
-shared-slice-read-sum c = search needs
-
-shared-slice-read-t15 : tie.Need-shared-slice-read-t15 Inv-loop μ-loop
-shared-slice-read-t15 c = search needs
-
-mul-t16 : tie.Need-mul-t16 Inv-loop μ-loop
-mul-t16 c = search needs
-
-shared-slice-read-t18 : tie.Need-shared-slice-read-t18 Inv-loop μ-loop
-shared-slice-read-t18 c = search needs
+lift-at-requires : tie.Need-lift-at-requires Inv-loop μ-loop
+lift-at-requires c κs = search needs
 
 interval-requires : tie.Need-interval-requires Inv-loop μ-loop
 interval-requires c κs = search read-room
@@ -50,18 +38,14 @@ loop-again c = search sum-turn
 returns : tie.Need-returns Inv-loop μ-loop
 returns c = search sum-end
 
-pub reach-part-spec : {M : Type 1} → statement M
-reach-part-spec =
+pub reach-between-spec : {M : Type 1} → statement M
+reach-between-spec =
     tie.close
     (tie.spec
     Inv-loop
     μ-loop
     loop-holds
-    mul-sum
-    shared-slice-read-sum
-    shared-slice-read-t15
-    mul-t16
-    shared-slice-read-t18
+    lift-at-requires
     interval-requires
     add-sum
     add-i
