@@ -77,9 +77,8 @@ fn worked_cases() {
     }
 }
 
-/// A round with up to so many donors, of sums up to the largest, with held lifts here or elsewhere.
-fn any_round(seeded: &mut Seeded, donors: usize) -> Round {
-    let count = 1 + seeded.index(9);
+/// A round of so many lifts, with up to so many donors, of sums up to the largest, with held lifts here or elsewhere.
+fn any_round(seeded: &mut Seeded, count: usize, donors: usize) -> Round {
     let new_sum = seeded.round_sum();
     let new_measures = seeded.split(new_sum, count);
     let came: Vec<Vec<u64>> = (0..donors)
@@ -111,6 +110,18 @@ fn any_round(seeded: &mut Seeded, donors: usize) -> Round {
     any
 }
 
+/// A round of `least` to `most` lifts, with none, one or two donors, and how many.
+fn proper_round(seeded: &mut Seeded, least: usize, most: usize) -> (Round, usize) {
+    loop {
+        let donors = seeded.index(3);
+        let count = least + seeded.index(most - least + 1);
+        let any = any_round(seeded, count, donors);
+        if is_proper(&any, donors) {
+            return (any, donors);
+        }
+    }
+}
+
 /// Words that give a round's draws the least value, the greatest or any, some words passed over between them, and where each draw's words end.
 fn words_for(seeded: &mut Seeded, round: &Round, words: &mut Vec<u64>) -> Vec<usize> {
     let mut ends = Vec::new();
@@ -129,6 +140,20 @@ fn words_for(seeded: &mut Seeded, round: &Round, words: &mut Vec<u64>) -> Vec<us
     });
     chosen.expect("every draw is answered");
     ends
+}
+
+/// The choice on which archive and reference agree, from words that suffice and from each number of words that is one short in a
+/// draw, and how many draws it took.
+fn compared(seeded: &mut Seeded, round: &Round) -> (Choice, usize) {
+    let mut words: Vec<u64> = (0..seeded.index(3)).map(|_| seeded.word()).collect();
+    let at = words.len();
+    let ends = words_for(seeded, round, &mut words);
+    let choice = agreed(round, &words, at).expect("the words suffice");
+    assert_eq!(choice.next, words.len());
+    for end in &ends {
+        assert_eq!(agreed(round, &words[..end - 1], at), None);
+    }
+    (choice, ends.len())
 }
 
 #[test]
@@ -154,24 +179,12 @@ fn largest_sums() {
 #[test]
 fn seeded_rounds_agree() {
     let mut seeded = Seeded::new(5);
-    let mut compared = 0;
     let (mut by_draws, mut by_donors, mut by_outcome) = ([0; 4], [0; 3], [0; 4]);
     let (mut both_held, mut largest_sums, mut zero_measures) = (0, 0, 0);
-    while compared < 200_000 {
-        let donors = seeded.index(3);
-        let any = any_round(&mut seeded, donors);
-        if !is_proper(&any, donors) {
-            continue;
-        }
-        let mut words: Vec<u64> = (0..seeded.index(3)).map(|_| seeded.word()).collect();
-        let at = words.len();
-        let ends = words_for(&mut seeded, &any, &mut words);
-        let choice = agreed(&any, &words, at).expect("the words suffice");
-        assert_eq!(choice.next, words.len());
-        for end in &ends {
-            assert_eq!(agreed(&any, &words[..end - 1], at), None);
-        }
-        by_draws[ends.len()] += 1;
+    for _ in 0..200_000 {
+        let (any, donors) = proper_round(&mut seeded, 1, 9);
+        let (choice, draws) = compared(&mut seeded, &any);
+        by_draws[draws] += 1;
         by_donors[donors] += 1;
         by_outcome[choice.outcome as usize] += 1;
         both_held += usize::from(any.held.iter().all(Option::is_some));
@@ -179,11 +192,29 @@ fn seeded_rounds_agree() {
         let zero =
             |lift: &Lift| lift.new_measure == 0 || lift.donor.is_some() && lift.old_measure == 0;
         zero_measures += usize::from(any.lifts.iter().any(zero));
-        compared += 1;
     }
     let counts = [&by_draws[..], &by_donors, &by_outcome[1..]].concat();
     let counts = [counts, vec![both_held, largest_sums, zero_measures]].concat();
     assert!(counts.iter().all(|&rounds| rounds >= 1_000), "{counts:?}");
+}
+
+/// Rounds of several blocks of 16 lifts: every place of the first three is chosen, by replacement and fresh.
+#[test]
+fn long_rounds_agree() {
+    let mut seeded = Seeded::new(6);
+    let (mut by_place, mut whole_blocks) = ([[0; 4]; 70], 0);
+    for _ in 0..50_000 {
+        let (any, _) = proper_round(&mut seeded, 10, 70);
+        let (choice, _) = compared(&mut seeded, &any);
+        by_place[choice.place][choice.outcome as usize] += 1;
+        whole_blocks += usize::from(any.lifts.len().is_multiple_of(16));
+    }
+    let (replaced, fresh) = (Outcome::Replaced as usize, Outcome::Fresh as usize);
+    for (place, by_outcome) in by_place[..48].iter().enumerate() {
+        let least = by_outcome[replaced].min(by_outcome[fresh]);
+        assert!(least >= 20, "{place} {by_outcome:?}");
+    }
+    assert!(whole_blocks >= 1_000);
 }
 
 /// A small round with up to so many donors and measures of at most `most`, no lift held.
