@@ -2,3 +2,4 @@ pub mod Draws
 pub mod Exactly
 pub mod Runs
 pub mod Positions
+pub mod Worked
