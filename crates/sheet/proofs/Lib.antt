@@ -9,5 +9,6 @@ pub mod Those
 pub mod Searches
 pub mod Sending
 pub mod Placing
+pub mod Numbers
 pub mod Verdicts
 pub mod Worked

@@ -1,6 +1,6 @@
 -- The answer to a sheet: the tests of the code on tables are the document's on lifts, and one law for each way out.
 use Prim.Native.Nat.{ℕ, _+_, _≤_, _<_}
-use mathlib.Core.Path.{_≡_, refl, ap, ap₂, _∙_}
+use mathlib.Core.Path.{_≡_, refl, ap, ap₂, subst, _∙_}
 use mathlib.Core.Bool.{Bool, true, false, cond, _||_, or-true, true≢false}
 use mathlib.Core.List.{List, [], _∷_}
 use native.Mathlib.Omega.{arith}
@@ -22,6 +22,7 @@ use Rattle.sheet.specs.declared.Found.{Found}
 use Rattle.sheet.specs.declared.Found.the-variants.{At, Nothing}
 use Rattle.sheet.proofs.Tables.{getD-tabulate}
 use Rattle.sheet.proofs.Sending.{donors-count}
+use Rattle.sheet.proofs.Numbers.{Above, above}
 use Rattle.sheet.proofs.Those.{those-ext, those-none, none-those}
 
 -- ---- the tests on tables
@@ -154,6 +155,7 @@ decided ws =
             donors = none (crowded ls) (g .0);
           } in
           (fitting, cc (g .1), cc (g .1));
+      above = λ x e. subst Above e (above ws);
     }
   where
     ls : List Lift

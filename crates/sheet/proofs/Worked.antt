@@ -6,8 +6,12 @@ use Rattle.sheet.specs.Sheet.{lifts, written}
 use Rattle.sheet.specs.Reading.{fault, readFrom}
 use Rattle.sheet.specs.Rounds.{those, sends}
 use Rattle.sheet.specs.Refusal.{firstRound, ofRounds, verdict}
-use Rattle.sheet.specs.Worked.{cases, allRight}
+use Rattle.sheet.specs.Worked.{cases, allRight, rightEnds}
 
 pub all-right : allRight cases ≡ true
 unfolding totalBy lifts written fault readFrom those sends firstRound ofRounds verdict
 all-right = refl
+
+pub right-ends : rightEnds ≡ true
+unfolding fault
+right-ends = refl

@@ -5,9 +5,9 @@ use mathlib.Core.Bool.{Bool, true, false}
 use mathlib.Core.List.{List, [], _∷_}
 use lib.ListN.{length}
 use Rattle.sheet.specs.Sheet.{mostLifts, mostRounds, largestSum, Place, Lift, lifts, sheetOf}
-use Rattle.sheet.specs.Reading.{mislong, reading, sound}
+use Rattle.sheet.specs.Reading.{mislong, Numbered, reading, sound}
 use Rattle.sheet.specs.Rounds.{inUse}
-use Rattle.sheet.specs.Refusal.{fits, unheld, oversize, unmeasured, crowded, verdict}
+use Rattle.sheet.specs.Refusal.{refused, fits, unheld, oversize, unmeasured, crowded, verdict}
 use Rattle.sheet.specs.declared.Side.the-variants.{Old, New}
 
 -- ---- reading and writing
@@ -72,6 +72,8 @@ pub record Fitting (ws : List ℕ) : Type 0 where
 pub record Decided (ws : List ℕ) : Type 0 where
   pub passes : Fitting ws → verdict ws ≡ fits (length (lifts ws)) (length (inUse New (lifts ws)))
   pub only : (n k : ℕ) → verdict ws ≡ fits n k → Fitting ws × (n ≡ length (lifts ws)) × (k ≡ length (inUse New (lifts ws)))
+  -- 0 is no refusal's number
+  pub above : (x : Numbered) → verdict ws ≡ refused x → 0 < x .number
 
 abbrev pub DecidedTheorem : Type 0
 DecidedTheorem = (ws : List ℕ) → Decided ws

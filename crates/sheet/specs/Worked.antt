@@ -1,11 +1,14 @@
--- Small sheets with what the document says of them, as one table to be computed.
-use Prim.Native.Nat.{ℕ, _+_, _-_}
+-- Small sheets with what the document says of them, as one table to be computed. Its numbers are literals, so that none of them can change
+-- in definition and code together.
+use Prim.Native.Nat.{ℕ, _-_}
 use mathlib.Core.Bool.{Bool, true, false, _&&_}
 use mathlib.Core.List.{List, [], _∷_, _++_}
 use lib.Dec.{eqb}
-use Rattle.sheet.specs.Sheet.{mostRounds, largestSum, heldKind, endKind, Lift, word, sheetOf}
-use Rattle.sheet.specs.Reading.{numbered}
+use lib.ListN.{replicate}
+use Rattle.sheet.specs.Sheet.{Lift, sheetOf}
+use Rattle.sheet.specs.Reading.{fault, numbered}
 use Rattle.sheet.specs.Refusal.{Verdict, refused, fits, verdict}
+use Rattle.sheet.specs.declared.Before.{Before}
 
 -- a sheet and what is said of it
 pub record Case : Type 0 where
@@ -50,41 +53,61 @@ abbrev pub cases : List Case
 cases =
     case example (fits 3 1)
     -- "A sheet of one end word with 0 lifts is accepted and has no choices."
-    ∷ case (word endKind 0 ∷ []) (fits 0 0)
+    ∷ case (0xF0000000 ∷ []) (fits 0 0)
+    -- "1. Length 0 or above 12,389 words. Place: the length."
     ∷ case [] (refused (numbered 1 0))
+    ∷ case (replicate 12389 0) (refused (numbered 2 0))
+    ∷ case (replicate 12390 0) (refused (numbered 1 12390))
     -- "no end (place: the length)", "a word after the end"
     ∷ case (0x1000000B ∷ 0x20200002 ∷ []) (refused (numbered 2 2))
-    ∷ case (example ++ (word endKind 3 ∷ [])) (refused (numbered 2 11))
-    -- "the first faulty word deciding, 2 before the others"
-    ∷ case (word heldKind 1 ∷ []) (refused (numbered 2 0))
-    ∷ case (0x1000000B ∷ 0x20200000 ∷ 0x30200001 ∷ word heldKind 0 ∷ 0 ∷ []) (refused (numbered 6 3))
+    ∷ case (example ++ (0xF0000003 ∷ [])) (refused (numbered 2 11))
+    -- "2 before the others": a word out of sequence that is also 3, 4, 5 or 6
+    ∷ case (0x1000000B ∷ 0x10000000 ∷ []) (refused (numbered 2 1))
+    ∷ case (0x1000000B ∷ 0x30000001 ∷ []) (refused (numbered 2 1))
+    ∷ case (0x1000000B ∷ 0xF0000009 ∷ []) (refused (numbered 2 1))
+    ∷ case (0x1000000B ∷ 0x40000001 ∷ []) (refused (numbered 2 1))
+    -- "the first faulty word deciding": 6 at word 3 before 2 at word 4
+    ∷ case (0x1000000B ∷ 0x20200000 ∷ 0x30200001 ∷ 0x40000000 ∷ 0 ∷ []) (refused (numbered 6 3))
+    -- "3. Lift number 0 or not above the one before."
     ∷ case (0x10000000 ∷ []) (refused (numbered 3 0))
     ∷ case (sheetOf (lift 5 0 0 1 1 false ∷ lift 5 0 0 1 1 false ∷ [])) (refused (numbered 3 3))
-    ∷ case (word endKind 1 ∷ word endKind 1 ∷ []) (refused (numbered 5 0))
-    -- "Round 100 passes, 101 is 4."
-    ∷ case (single mostRounds 1 mostRounds 1) (fits 1 1)
-    ∷ case (single (mostRounds + 1) 1 1 1) (refused (numbered 4 1))
-    ∷ case (single 1 1 1 (largestSum + 1)) (refused (numbered 4 2))
+    -- "4. Round above 100, measure above 1,048,576": both at their bounds, and one beyond
+    ∷ case (0x1000000B ∷ 0x2C900000 ∷ 0x3C900000 ∷ 0x40000000 ∷ 0xF0000001 ∷ []) (fits 1 1)
+    ∷ case (0x1000000B ∷ 0x2CA00001 ∷ []) (refused (numbered 4 1))
+    ∷ case (0x1000000B ∷ 0x2C900001 ∷ []) (refused (numbered 4 1))
+    ∷ case (single 100 1 101 1) (refused (numbered 4 2))
+    ∷ case (single 1 1 1 1048577) (refused (numbered 4 2))
     -- "Round 0 in an old place is a newcomer, in a new place a withdrawn lift, and its measure is then 0."
     ∷ case (single 3 1 0 0) (fits 1 0)
     ∷ case (single 3 1 0 1) (refused (numbered 4 2))
-    -- "A held word with payload other than 0"
-    ∷ case (0x1000000B ∷ 0x20200001 ∷ 0x30200001 ∷ word heldKind 1 ∷ word endKind 1 ∷ []) (refused (numbered 6 3))
+    -- "5. End count not the number of lifts"
+    ∷ case (0xF0000001 ∷ 0xF0000001 ∷ []) (refused (numbered 5 0))
+    -- "6. A held word with payload other than 0"
+    ∷ case (0x1000000B ∷ 0x20200001 ∷ 0x30200001 ∷ 0x40000001 ∷ 0xF0000001 ∷ []) (refused (numbered 6 3))
     -- an old round without a held lift, one with two, one whose measures are all 0; the lowest round is the place
     ∷ case (sheetOf (lift 1 9 1 1 1 false ∷ lift 2 8 1 1 1 false ∷ [])) (refused (numbered 7 8))
     ∷ case (sheetOf (lift 1 9 1 1 1 true ∷ lift 2 9 1 1 1 true ∷ [])) (refused (numbered 7 9))
     ∷ case (sheetOf (lift 1 9 0 1 1 false ∷ [])) (refused (numbered 7 9))
     -- "Sum 1,048,576 passes, 1,048,577 is 8."
-    ∷ case (sums largestSum largestSum) (fits 2 1)
-    ∷ case (sums (largestSum + 1) 1) (refused (numbered 8 1))
-    ∷ case (sums 2 (largestSum + 1)) (refused (numbered 8 1))
+    ∷ case (sums 1048576 1048576) (fits 2 1)
+    ∷ case (sums 1048577 1) (refused (numbered 8 1))
+    ∷ case (sums 2 1048577) (refused (numbered 8 1))
     ∷ case (single 1 1 4 0) (refused (numbered 9 4))
     -- "each over all rounds rising before the next", "old rounds tried first"
-    ∷ case (sheetOf (lift 1 1 largestSum 1 1 true ∷ lift 2 1 1 1 1 false ∷ lift 3 9 1 1 1 false ∷ [])) (refused (numbered 7 9))
-    ∷ case (sheetOf (lift 1 90 largestSum 1 largestSum true ∷ lift 2 90 1 1 1 false ∷ [])) (refused (numbered 8 90))
-    ∷ case (sheetOf (lift 1 0 0 9 largestSum false ∷ lift 2 0 0 9 1 false ∷ lift 3 0 0 1 0 false ∷ [])) (refused (numbered 8 9))
+    ∷ case (sheetOf (lift 1 1 1048576 1 1 true ∷ lift 2 1 1 1 1 false ∷ lift 3 9 1 1 1 false ∷ [])) (refused (numbered 7 9))
+    ∷ case (sheetOf (lift 1 90 1048576 1 1048576 true ∷ lift 2 90 1 1 1 false ∷ [])) (refused (numbered 8 90))
+    ∷ case (sheetOf (lift 1 0 0 9 1048576 false ∷ lift 2 0 0 9 1 false ∷ lift 3 0 0 1 0 false ∷ [])) (refused (numbered 8 9))
     ∷ case (sheetOf (lift 1 1 1 1 1 true ∷ lift 2 2 1 1 1 true ∷ lift 3 3 1 1 1 true ∷ lift 4 0 0 9 0 false ∷ [])) (refused (numbered 9 9))
     -- "Two donors pass, three are 10."
     ∷ case (three 0) (fits 4 1)
     ∷ case (three 1) (refused (numbered 10 5))
     ∷ []
+
+-- what the words before an end word tell behind n lifts
+abbrev behind : ℕ → Before
+behind n = record { kind = 3; number = n; old = 0; lifts = n }
+
+-- "5. End count not the number of lifts, or above 4,096.": behind 4,096 lifts and behind 4,097
+abbrev pub rightEnds : Bool
+rightEnds =
+    eqb (fault (behind 4096) 0xF0001000) 0 && (eqb (fault (behind 4097) 0xF0001001) 5 && eqb (fault (behind 4097) 0xF0001000) 5)
