@@ -14,8 +14,8 @@ use Rattle.round.specs.declared.Selected.{Selected}
 use Rattle.round.specs.declared.Selected.the-variants.{At, Short as Ended}
 use Rattle.sheet.specs.Reading.{Numbered}
 use Rattle.sheet.specs.Refusal.{Verdict, refused, fits}
-use Rattle.selection.specs.Choice.{Reply, refusal, replied}
-use Rattle.exports.specs.Reply.{Replied, Chose, Answered, Told}
+use Rattle.selection.specs.Choice.{Reply, numbers}
+use Rattle.exports.specs.Reply.{Replied, Chose, Answered}
 
 pub replied-value : {d : Drawn} {v n x y : ℕ} → Value v n ≡ d → Replied d true x v y n
 replied-value e = rw (← e) (record { told = refl; value-written = refl; next-written = refl })
@@ -35,11 +35,9 @@ answered-refused e h k = rw (← e) (record { told = h; place-written = k; round
 pub answered-fits : {v : Verdict} {l k r : ℕ} → fits l k ≡ v → Answered v 0 l r k
 answered-fits e = rw (← e) (record { told = refl; place-written = refl; rounds-written = refl })
 
-pub told-refused : {r : Reply} {x : Numbered} {n p : ℕ} → refusal x ≡ r → n ≡ x .number → p ≡ x .place → Told r n p 0
-told-refused e h k = rw (← e) (record { told = h; place-written = k; read-written = refl })
-
-pub told-chosen : {r : Reply} {n k : ℕ} → replied n k ≡ r → Told r 0 n k
-told-chosen e = rw (← e) (record { told = refl; place-written = refl; read-written = refl })
+-- the three numbers of a reply
+pub three : {r q : Reply} {n a b : ℕ} → n ≡ r .number → a ≡ r .second → b ≡ r .third → r ≡ q → numbers n a b ≡ q
+three n a b e = rw (n, a, b) e
 
 -- what is asked of a round, and its answer, by the enums that the numbers stand for
 pub by-enums : {ds ds′ : Donors} {h h′ : Held} {ls : List Lift} → ds ≡ ds′ → h ≡ h′ → Callable ds′ ls h′ → Callable ds ls h

@@ -12,7 +12,6 @@ use Rattle.round.specs.declared.Held.the-variants.{Neither, Single, Both}
 use Rattle.round.specs.declared.Selected.{Selected}
 use Rattle.round.specs.declared.Selected.the-variants.{At, Short as Ended}
 use Rattle.sheet.specs.Refusal.{Verdict, refused, fits}
-use Rattle.selection.specs.Choice.{Reply, refusal, replied}
 
 -- whether there is a value
 abbrev pub isValue : Drawn → Bool
@@ -87,24 +86,3 @@ pub record Answered (v : Verdict) (answer place′ rounds rounds′ : ℕ) : Typ
   pub told : answer ≡ numberOf v
   pub place-written : place′ ≡ placeOrLifts v
   pub rounds-written : rounds′ ≡ roundsOr rounds v
-
--- the document's number of a reply, 0 where there are choices
-abbrev pub numberFor : Reply → ℕ
-numberFor (refusal x) = x .number
-numberFor (replied choices words) = 0
-
--- its place, or how many choices there are
-abbrev pub placeFor : Reply → ℕ
-placeFor (refusal x) = x .place
-placeFor (replied choices words) = choices
-
--- how many words were read: "A refusal replies number, place and 0 words read"
-abbrev pub readFor : Reply → ℕ
-readFor (refusal x) = 0
-readFor (replied choices words) = words
-
--- the answer to a reply r, and the two numbers lent, after the call
-pub record Told (r : Reply) (answer place′ read′ : ℕ) : Type 0 where
-  pub told : answer ≡ numberFor r
-  pub place-written : place′ ≡ placeFor r
-  pub read-written : read′ ≡ readFor r

@@ -5,10 +5,9 @@ ghost use Rattle.draw.specs.Draw.{largest, drawAt};
 ghost use Rattle.round.specs.Choice.{selected};
 ghost use Rattle.round.specs.Slices.{lifts, Level, Callable};
 ghost use Rattle.sheet.specs.Refusal.{verdict};
-ghost use Rattle.selection.specs.Choice.{reply, output};
-ghost use Rattle.exports.specs.Reply.{Replied, donorsOf, heldOf, Chose, Answered, Told};
+ghost use Rattle.selection.specs.Choice.{numbers, reply, output};
+ghost use Rattle.exports.specs.Reply.{Replied, donorsOf, heldOf, Chose, Answered};
 use draw::Drawn;
-use panel::Answer;
 use round::Donors;
 use round::Held;
 use round::Selected;
@@ -133,35 +132,14 @@ pub extern "C" fn jengpilo_panel_choose(
     words: &[u64],
     start: usize,
     out: &mut [u32],
-    place: &mut usize,
-    read: &mut usize,
+    second: &mut usize,
+    third: &mut usize,
 ) -> u32
-    ensures told { λ r. ⌜ Told (reply (now (sheet .entry)) (now (words .entry)) start (length (now (out .entry)))) r (now (place .exit)) (now (read .exit)) ⌝ }
+    ensures replied { λ r. ⌜ numbers r (now (second .exit)) (now (third .exit)) ≡ reply (now (sheet .entry)) (now (words .entry)) start (length (now (out .entry))) ⌝ }
     ensures written { λ _. ⌜ now (out .exit) ≡ output (now (sheet .entry)) (now (words .entry)) start (now (out .entry)) ⌝ }
 {
     let answer = panel::choose(sheet, words, start, out);
-    *read = 0;
-    match answer {
-        Answer::Sheet(x) => {
-            *place = x.place();
-            x.number()
-        }
-        Answer::Start(at) => {
-            *place = at;
-            11
-        }
-        Answer::Output(need) => {
-            *place = need;
-            12
-        }
-        Answer::Words(round) => {
-            *place = round;
-            13
-        }
-        Answer::Chosen(choices, count) => {
-            *place = choices;
-            *read = count;
-            0
-        }
-    }
+    *second = answer.second();
+    *third = answer.third();
+    answer.number()
 }

@@ -6,7 +6,7 @@ use native.Mathlib.Omega.{arith}
 use lib.Dec.{ltb}
 use lib.ListN.{length, take, drop}
 use lib.Seq.{drop-drop}
-use borrow.Author.Tests.{lt-ltb, le-ltb}
+use borrow.Author.Tests.{ne-eqb, lt-ltb, le-ltb}
 use Rattle.draw.specs.Draw.{largest}
 use Rattle.draw.proofs.Positions.{run-between}
 use Rattle.sheet.specs.Sheet.{mostRounds, Lift, lifts}
@@ -14,6 +14,7 @@ use Rattle.sheet.specs.Reading.{Numbered, numbered}
 use Rattle.sheet.specs.Rounds.{named, inUse}
 use Rattle.sheet.proofs.Those.{those-few}
 use Rattle.sheet.specs.Refusal.{refused, fits, verdict}
+use Rattle.sheet.proofs.Verdicts.{decided}
 use Rattle.sheet.specs.declared.Side.the-variants.{New}
 use Rattle.selection.specs.Choice.{planOf, Choice, Panel, chosen, short, panel, Reply, refusal, replied, ofPanel, ofLent, reply, written, writtenOf, unlessRefused, output}
 use Rattle.selection.proofs.Steps.{Steps, none, some, steps}
@@ -70,8 +71,8 @@ panel-count {ls} {ws} {from} (some {r = r} q k) =
 -- ---- the ways out
 
 -- a refusal leaves the output
-pub left : {x : Numbered} {y : Reply} (out new : List ℕ) → refusal x ≡ y → (refusal x ≡ y) × (out ≡ unlessRefused y out new)
-left out new e = (e, rw (← e))
+pub left : (x : Numbered) {y : Reply} (out new : List ℕ) → 0 < x .number → refusal x ≡ y → (refusal x ≡ y) × (out ≡ unlessRefused y out new)
+left x out new h e = (e, rw (← e, ne-eqb (x .number) 0 (λ z. omega (arith, z, h))))
 
 pub few-rounds : (ls : List Lift) → length (inUse New ls) ≤ mostRounds
 few-rounds ls = those-few (λ r. ltb 0 (named New r ls)) 1 mostRounds
@@ -116,7 +117,7 @@ module _ (ls : List Lift) (ws : List ℕ) (start : ℕ) (out : List ℕ) where
 module _ (sheet ws : List ℕ) (start : ℕ) (out : List ℕ) where
   pub at-sheet : {x : Numbered} → refused x ≡ verdict sheet → (refusal x ≡ reply sheet ws start (length out)) × (out ≡ output sheet ws start out)
   unfolding reply output
-  at-sheet e = rw (← e) (refl, refl)
+  at-sheet {x} e = rw (← e) (left x out _ (decided sheet .above x (sym e)) refl)
 
   pub at-fitting : {n k : ℕ} {y : Reply} {out′ : List ℕ} → fits n k ≡ verdict sheet → y ≡ ofLent (lifts sheet) k ws start (length out)
       → out′ ≡ unlessRefused (ofLent (lifts sheet) k ws start (length out)) out (writtenOf (panel (lifts sheet) ws start) out)

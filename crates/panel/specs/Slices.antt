@@ -209,7 +209,7 @@ pairs (a ∷ xs) (b ∷ bs) = a ∷ b ∷ pairs xs bs
 
 -- ---- the answer
 
--- what an answer says
+-- what an answer replies: the document's number and values for each case
 abbrev pub told : Answer → Reply
 told (Sheet x) = refusal (refusalOf x)
 told (Start at) = refusal (numbered 11 at)

@@ -39,6 +39,47 @@ pub enum Answer {
     Chosen(usize, usize),
 }
 
+impl Answer {
+    // The document's number, 0 where there are choices.
+    pub fn number(self) -> u32
+        ensures { λ r. ⌜ r ≡ told self .number ⌝ }
+    {
+        match self {
+            Answer::Sheet(x) => x.number(),
+            Answer::Start(_) => 11,
+            Answer::Output(_) => 12,
+            Answer::Words(_) => 13,
+            Answer::Chosen(_, _) => 0,
+        }
+    }
+
+    // The place of a refusal, or how many choices there are.
+    pub fn second(self) -> usize
+        ensures { λ r. ⌜ r ≡ told self .second ⌝ }
+    {
+        match self {
+            Answer::Sheet(x) => x.place(),
+            Answer::Start(at) => at,
+            Answer::Output(need) => need,
+            Answer::Words(round) => round,
+            Answer::Chosen(choices, _) => choices,
+        }
+    }
+
+    // How many words were read.
+    pub fn third(self) -> usize
+        ensures { λ r. ⌜ r ≡ told self .third ⌝ }
+    {
+        match self {
+            Answer::Sheet(_) => 0,
+            Answer::Start(_) => 0,
+            Answer::Output(_) => 0,
+            Answer::Words(_) => 0,
+            Answer::Chosen(_, words) => words,
+        }
+    }
+}
+
 // The choices so far: how many, both words of each, and the next position; or the round in which the words ended, 0 if they did not.
 struct Picks {
     count: usize,

@@ -7,13 +7,10 @@ use native.Mathlib.Omega.{arith}
 use lib.Dec.{eqb, ltb}
 use lib.ListN.{length, take}
 use lib.Seq.{take-take}
-use borrow.Author.Tests.{eq-eqb, ne-eqb, lt-ltb, le-ltb, eqb-true, ltb-false}
+use borrow.Author.Tests.{eq-eqb, ne-eqb, lt-ltb, le-ltb, eqb-true, eqb-false, ltb-false}
 use Rattle.sheet.specs.Sheet.{mostRounds, longest}
-use Rattle.sheet.specs.Reading.{Numbered, numbered}
-use Rattle.selection.specs.Choice.{written, Reply, refusal, replied, reply, output}
-use Rattle.panel.specs.Slices.{told}
-use Rattle.panel.specs.declared.Answer.{Answer}
-use Rattle.panel.specs.declared.Answer.the-variants.{Chosen}
+use Rattle.sheet.specs.Reading.{numbered}
+use Rattle.selection.specs.Choice.{written, Reply, numbers, replied, reply, output}
 use Rattle.report.specs.Report.{mostWords, sheetWords, randomWords, lines, wordsLine, refusedLine, textOf, report, pairLines, printedWords, textRoom, Ready}
 use Rattle.report.proofs.Choices.{made}
 use Rattle.report.proofs.Sizes.{chosen-le}
@@ -53,9 +50,10 @@ module _ (sheet : List ℕ) (size : ℕ) (words : List ℕ) where
 
 -- ---- the reply
 
-pub text-refused : (sheet ws : List ℕ) {x : Numbered} → reply sheet ws 0 (2 * mostRounds) ≡ refusal x → textOf sheet ws ≡ refusedLine x
+pub text-refused : (sheet ws : List ℕ) {r : Reply} → r ≡ reply sheet ws 0 (2 * mostRounds) → (r .number ≡ 0 → ⊥)
+    → textOf sheet ws ≡ refusedLine (numbered (r .number) (r .second))
 unfolding textOf
-text-refused sheet ws e = rw e
+text-refused sheet ws {r} e h = rw (← e, ne-eqb (r .number) 0 h)
 
 -- the text from the output words out, of n choices and k words read
 pub record Text (sheet ws : List ℕ) (n k : ℕ) (out : List ℕ) : Type 0 where
@@ -85,18 +83,29 @@ pub record Told (sheet ws : List ℕ) (r : Reply) (out : List ℕ) : Type 0 wher
 
 pub text-told : (sheet ws : List ℕ) (r : Reply) (out : List ℕ) {out′ : List ℕ} → r ≡ reply sheet ws 0 (2 * mostRounds) → length ws ≤ mostWords
     → length out ≡ 2 * mostRounds → length out′ ≡ length out → out′ ≡ output sheet ws 0 out → Told sheet ws r out′
-text-told sheet ws (refusal x) out e h l l′ o = record { ready = tt; is = text-refused sheet ws (sym e) }
-text-told sheet ws (replied n k) out e h l l′ o =
-    let t = text-chosen sheet ws (sym e) out h l l′ o in
-    record { ready = (t .inside, t .room); is = sym (t .is) }
+text-told sheet ws r out {out′} e h l l′ o = go (eqb (r .number) 0) refl
+  where
+    go : (t : Bool) → eqb (r .number) 0 ≡ t → Told sheet ws r out′
+    go true q =
+        let z : replied (r .second) (r .third) ≡ r = ap (λ n. numbers n (r .second) (r .third)) (sym (eqb-true (r .number) 0 q)) in
+        let t = text-chosen sheet ws (sym (z ∙ e)) out h l l′ o in
+        record { ready = λ _. (t .inside, t .room); is = rw q (sym (t .is)) }
+    go false q =
+        let n : r .number ≡ 0 → ⊥ = eqb-false (r .number) 0 q in
+        record { ready = λ z. absurd (n z); is = rw q (text-refused sheet ws e n) }
 
 -- ---- the answer
 
--- what is asked of an answer with choices
-pub ready-chosen : (out : List ℕ) {a : Answer} {n k : ℕ} → a ≡ Chosen n k → Ready (told a) out → Ready (replied n k) out
-ready-chosen out e h = rw e at h
+-- what is asked of a reply that is no refusal, and what is printed of it and of a refusal
+module _ (r : Reply) (out : List ℕ) where
+  pub ready-chosen : {number count : ℕ} → Ready r out → number ≡ r .number → count ≡ r .second → number ≡ 0
+      → (2 * count ≤ length out) × ((words : ℕ) → words ≡ r .third → length (pairLines (take (2 * count) out) ++ wordsLine words) ≤ textRoom)
+  ready-chosen h n c z = let q = h (sym n ∙ z) in rw c (q .0, λ words w. rw w (q .1))
 
--- what is printed of a refusal is its number and its place
-pub printed-refused : (out : List ℕ) {r : Reply} {x : Numbered} {number place : ℕ} → r ≡ refusal x → number ≡ x .number → place ≡ x .place
-    → printedWords r out ≡ refusedLine (numbered number place)
-printed-refused out e n p = rw (e, n, p)
+  pub printed-refused : {number place : ℕ} → number ≡ r .number → place ≡ r .second → (number ≡ 0 → ⊥)
+      → printedWords r out ≡ refusedLine (numbered number place)
+  printed-refused n p h = rw (← n, ← p, ne-eqb _ 0 h)
+
+  pub printed-chosen : {number count words : ℕ} → number ≡ r .number → count ≡ r .second → words ≡ r .third → number ≡ 0
+      → printedWords r out ≡ pairLines (take (2 * count) out) ++ wordsLine words
+  printed-chosen n c w h = rw (← n, ← c, ← w, h)

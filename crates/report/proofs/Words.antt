@@ -11,7 +11,7 @@ use lib.Seq.{getD-set-same, getD-set-other, drop-cons, length-take-le, take-all,
 use borrow.Author.Tests.{eqb-true, eqb-false, leb-true, leb-false}
 use Rattle.sheet.specs.Tables.{tabulate}
 use Rattle.sheet.proofs.Tables.{getD-tabulate, length-tabulate}
-use Rattle.report.specs.Report.{littleEndian, wordAt, wordsOf, mostWords, randomWords, Decoded}
+use Rattle.report.specs.Report.{littleEndian, wordAt, wordsOf, mostWords, randomWords, CountTheorem, Decoded}
 
 -- ---- one word
 
@@ -138,7 +138,7 @@ within m (suc i) zero l h = absurd (omega arith)
 within m (suc i) (suc n) [] h = refl
 within m (suc i) (suc n) (x ∷ l) h = within m i n l (omega arith)
 
-length-random : (bytes : List ℕ) → length (randomWords bytes) ≡ min mostWords (length bytes / 8)
+pub length-random : CountTheorem
 length-random bytes = rw (length-take, length-words)
 
 random-at : (bytes : List ℕ) (k : ℕ) → k < length (randomWords bytes) → getD (randomWords bytes) k 0 ≡ wordAt 8 bytes k

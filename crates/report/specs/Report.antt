@@ -1,5 +1,5 @@
 -- "The program" of document 01: from the bytes of both files to the printed text.
-use Prim.Native.Nat.{ℕ, zero, suc, _+_, _*_, _/_, _%_, _≤_}
+use Prim.Native.Nat.{ℕ, zero, suc, _+_, _*_, _/_, _%_, _≤_, min}
 use mathlib.Core.Path.{_≡_}
 use mathlib.Core.Bool.{cond}
 use mathlib.Core.List.{List, [], _∷_, _++_}
@@ -8,7 +8,7 @@ use lib.ListN.{length, take, drop}
 use Rattle.sheet.specs.Sheet.{mostRounds, longest, payload, placeOf, lifts}
 use Rattle.sheet.specs.Reading.{Numbered, numbered}
 use Rattle.sheet.specs.Tables.{tabulate}
-use Rattle.selection.specs.Choice.{Choice, Panel, chosen, short, panel, Reply, refusal, replied, reply}
+use Rattle.selection.specs.Choice.{Choice, Panel, chosen, short, panel, Reply, reply}
 
 -- ---- the files
 
@@ -36,6 +36,10 @@ mostWords = 4096
 -- "words.bin (64-bit little-endian, the first 4,096 words; ..)"
 abbrev pub randomWords : List ℕ → List ℕ
 randomWords bytes = take mostWords (wordsOf 8 bytes)
+
+-- proved: of the whole words of a file of random words the first 4,096 are read
+abbrev pub CountTheorem : Type 0
+CountTheorem = (bytes : List ℕ) → length (randomWords bytes) ≡ min 4096 (length bytes / 8)
 
 -- ---- numbers in the text
 
@@ -95,8 +99,7 @@ refusedLine x = refusedLabel ++ (field (x .number) space ++ field (x .place) LF)
 
 -- what is printed of a reply and the choices
 abbrev pub printed : Reply → List Choice → List ℕ
-printed (refusal x) cs = refusedLine x
-printed (replied n k) cs = lines cs ++ wordsLine k
+printed r cs = cond (eqb (r .number) 0) (lines cs ++ wordsLine (r .third)) (refusedLine (numbered (r .number) (r .second)))
 
 -- the choices of a panel
 abbrev pub choicesOf : Panel → List Choice
@@ -126,17 +129,17 @@ pairLines (w ∷ v ∷ ws) = line (placeOf w .round) (payload v) (placeOf w .mea
 
 -- what is printed of a reply and the output words
 abbrev pub printedWords : Reply → List ℕ → List ℕ
-printedWords (refusal x) out = refusedLine x
-printedWords (replied n k) out = pairLines (take (2 * n) out) ++ wordsLine k
+printedWords r out =
+    cond (eqb (r .number) 0) (pairLines (take (2 * r .second) out) ++ wordsLine (r .third)) (refusedLine (numbered (r .number) (r .second)))
 
 -- room for every text
 abbrev pub textRoom : ℕ
 textRoom = 2048
 
--- a reply whose choices stand in the output words, with room for their text
+-- a reply whose choices, if it is no refusal, stand in the output words, with room for their text
 abbrev pub Ready : Reply → List ℕ → Type 0
-Ready (refusal x) out = Unit {0}
-Ready (replied n k) out = (2 * n ≤ length out) × (length (pairLines (take (2 * n) out) ++ wordsLine k) ≤ textRoom)
+Ready r out =
+    r .number ≡ 0 → (2 * r .second ≤ length out) × (length (pairLines (take (2 * r .second) out) ++ wordsLine (r .third)) ≤ textRoom)
 
 -- the words ws stand first among some words, n of them
 pub record Decoded (ws words : List ℕ) (n : ℕ) : Type 0 where

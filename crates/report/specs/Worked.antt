@@ -1,24 +1,31 @@
--- Files with what is printed of them, as one table to be computed.
+-- Files with what is printed of them, as one table to be computed. Its numbers and letters are literals, so that none of them can change in
+-- definition and code together.
 use Prim.Native.Nat.{ℕ, zero, suc, _/_, _%_}
 use mathlib.Core.Bool.{Bool, true, _&&_}
 use mathlib.Core.List.{List, [], _∷_, _++_}
 use lib.ListN.{length}
 use Rattle.sheet.specs.Worked.{example}
 use Rattle.selection.specs.Worked.{same}
-use Rattle.report.specs.Report.{space, LF, wordsLabel, refusedLabel, report}
+use Rattle.report.specs.Report.{report}
 
--- the bytes of the sheet and of the words, and the text
+-- what is kept of the sheet's bytes, how many it has, the bytes of the words, and the text
 pub record Case : Type 0 where
   pub sheet : List ℕ
+  pub size : ℕ
   pub words : List ℕ
   pub text : List ℕ
 
+-- a sheet that is kept whole
 abbrev case : List ℕ → List ℕ → List ℕ → Case
-case sheet words text = record { sheet = sheet; words = words; text = text }
+case sheet words text = record { sheet = sheet; size = length sheet; words = words; text = text }
+
+-- a sheet of so many bytes, of which its length alone matters
+abbrev long : ℕ → List ℕ → Case
+long size text = record { sheet = []; size = size; words = []; text = text }
 
 abbrev pub allRight : List Case → Bool
 allRight [] = true
-allRight (c ∷ cs) = same (report (c .sheet) (length (c .sheet)) (c .words)) (c .text) && allRight cs
+allRight (c ∷ cs) = same (report (c .sheet) (c .size) (c .words)) (c .text) && allRight cs
 
 -- the bytes of a number, the lowest first
 abbrev bytes : ℕ → ℕ → List ℕ
@@ -34,16 +41,27 @@ file size (w ∷ ws) = bytes size w ++ file size ws
 abbrev exampleFile : List ℕ
 exampleFile = file 4 example
 
+-- "words" and a space, then some bytes and LF
+abbrev words : List ℕ → List ℕ
+words n = 119 ∷ 111 ∷ 114 ∷ 100 ∷ 115 ∷ 32 ∷ n ++ (10 ∷ [])
+
+-- "refused" and a space, then some bytes and LF
+abbrev refused : List ℕ → List ℕ
+refused n = 114 ∷ 101 ∷ 102 ∷ 117 ∷ 115 ∷ 101 ∷ 100 ∷ 32 ∷ n ++ (10 ∷ [])
+
 abbrev pub cases : List Case
 cases =
     -- "chance words 10 and 0, prints 1 11 2, words 2"
-    case exampleFile (file 8 (10 ∷ 0 ∷ [])) (49 ∷ space ∷ 49 ∷ 49 ∷ space ∷ 50 ∷ LF ∷ wordsLabel ++ (50 ∷ LF ∷ []))
+    case exampleFile (file 8 (10 ∷ 0 ∷ [])) (49 ∷ 32 ∷ 49 ∷ 49 ∷ 32 ∷ 50 ∷ 10 ∷ words (50 ∷ []))
     -- "an unfinished last word is ignored": refusal 13 in round 1
-    ∷ case exampleFile (file 8 (10 ∷ []) ++ (0 ∷ 0 ∷ [])) (refusedLabel ++ (49 ∷ 51 ∷ space ∷ 49 ∷ LF ∷ []))
+    ∷ case exampleFile (file 8 (10 ∷ []) ++ (0 ∷ 0 ∷ [])) (refused (49 ∷ 51 ∷ 32 ∷ 49 ∷ []))
     -- "A file that cannot be read counts as empty."
-    ∷ case [] [] (refusedLabel ++ (49 ∷ space ∷ 48 ∷ LF ∷ []))
-    -- "A sheet of bytes not divisible by 4, however long, is refusal 1 with its byte length as place."
-    ∷ case (exampleFile ++ (0 ∷ [])) [] (refusedLabel ++ (49 ∷ space ∷ 52 ∷ 53 ∷ LF ∷ []))
+    ∷ case [] [] (refused (49 ∷ 32 ∷ 48 ∷ []))
+    -- "A sheet of bytes not divisible by 4, however long, is refusal 1 with its byte length as place.": 45 bytes, and 49,561
+    ∷ case (exampleFile ++ (0 ∷ [])) [] (refused (49 ∷ 32 ∷ 52 ∷ 53 ∷ []))
+    ∷ long 49561 (refused (49 ∷ 32 ∷ 52 ∷ 57 ∷ 53 ∷ 54 ∷ 49 ∷ []))
+    -- "Length 0 or above 12,389 words. Place: the length.": 49,560 bytes are 12,390 words
+    ∷ long 49560 (refused (49 ∷ 32 ∷ 49 ∷ 50 ∷ 51 ∷ 57 ∷ 48 ∷ []))
     -- "A sheet of one end word with 0 lifts is accepted and has no choices."
-    ∷ case (file 4 (0xF0000000 ∷ [])) [] (wordsLabel ++ (48 ∷ LF ∷ []))
+    ∷ case (file 4 (0xF0000000 ∷ [])) [] (words (48 ∷ []))
     ∷ []

@@ -206,16 +206,13 @@ fn put_answer(text: &mut [u8], answer: Answer, out: &[u32]) -> usize
     ensures is { λ r. ⌜ take r (now (text .exit)) ≡ printedWords (told answer) (now (out .entry)) ⌝ }
     ensures fits { λ r. ⌜ r ≤ length (now (text .exit)) ⌝ }
 {
-    match answer {
-        Answer::Sheet(x) => put_refusal(text, 0, x.number() as u64, x.place() as u64),
-        Answer::Start(at) => put_refusal(text, 0, 11, at as u64),
-        Answer::Output(need) => put_refusal(text, 0, 12, need as u64),
-        Answer::Words(round) => put_refusal(text, 0, 13, round as u64),
-        Answer::Chosen(count, read) => {
-            let end = 2 * count;
-            put_choices(text, 0, &out[..end], read as u64)
-        }
+    let number = answer.number();
+    let second = answer.second();
+    if number != 0 {
+        return put_refusal(text, 0, number as u64, second as u64);
     }
+    let end = 2 * second;
+    put_choices(text, 0, &out[..end], answer.third() as u64)
 }
 
 // The text of a sheet's bytes, with the words of the other file.

@@ -1,6 +1,6 @@
 -- What stands behind a reply that is no refusal. Assumes nothing.
 use Prim.Native.Nat.{ℕ, _*_, _-_, _≤_}
-use mathlib.Core.Path.{_≡_, refl, sym}
+use mathlib.Core.Path.{_≡_, refl, sym, ap}
 use mathlib.Core.Bool.{Bool, true, false, cond}
 use mathlib.Core.List.{List}
 use native.Mathlib.Omega.{arith}
@@ -10,6 +10,7 @@ use borrow.Author.Tests.{ltb-false}
 use Rattle.sheet.specs.Sheet.{lifts}
 use Rattle.sheet.specs.Reading.{numbered}
 use Rattle.sheet.specs.Refusal.{Verdict, refused, fits, verdict}
+use Rattle.sheet.proofs.Verdicts.{decided}
 use Rattle.selection.specs.Choice.{Choice, Panel, chosen, short, panel, refusal, replied, ofPanel, ofLent, ofVerdict, reply}
 
 -- the choices of a run, their number, and the words that were read
@@ -23,14 +24,12 @@ pub record Ran (sheet ws : List ℕ) (start n k : ℕ) : Type 0 where
 
 pub ran : (sheet ws : List ℕ) (start room : ℕ) {n k : ℕ} → reply sheet ws start room ≡ replied n k → Ran sheet ws start n k
 unfolding reply
-ran sheet ws start room {n} {k} e = judged (verdict sheet) e
+ran sheet ws start room {n} {k} e = judged (verdict sheet) refl e
   where
     told : (p : Panel) → panel (lifts sheet) ws start ≡ p → start ≤ length ws → ofPanel start p ≡ replied n k → Ran sheet ws start n k
     told (chosen cs next) h l q =
-        let x : length cs ≡ n = cc in
-        let y : next - start ≡ k = cc in
-        record { choices = cs; next = next; is = h; count = sym x; read = sym y; started = l }
-    told (short r) h l q = let z : _≡_ {A = ℕ} 0 1 = cc in absurd (omega arith)
+        record { choices = cs; next = next; is = h; count = sym (ap (λ r. r .second) q); read = sym (ap (λ r. r .third) q); started = l }
+    told (short r) h l q = absurd (omega (arith, ap (λ r. r .number) q))
 
     lent : (rounds : ℕ) → ofLent (lifts sheet) rounds ws start room ≡ replied n k → Ran sheet ws start n k
     lent rounds q = go (ltb (length ws) start) refl (ltb room (2 * rounds)) q
@@ -38,10 +37,10 @@ ran sheet ws start room {n} {k} e = judged (verdict sheet) e
         go : (t : Bool) → ltb (length ws) start ≡ t → (u : Bool)
             → cond t (refusal (numbered 11 start)) (cond u (refusal (numbered 12 (2 * rounds))) (ofPanel start (panel (lifts sheet) ws start))) ≡ replied n k
             → Ran sheet ws start n k
-        go true h u q = let z : _≡_ {A = ℕ} 0 1 = cc in absurd (omega arith)
-        go false h true q = let z : _≡_ {A = ℕ} 0 1 = cc in absurd (omega arith)
+        go true h u q = absurd (omega (arith, ap (λ r. r .number) q))
+        go false h true q = absurd (omega (arith, ap (λ r. r .number) q))
         go false h false q = told (panel (lifts sheet) ws start) refl (ltb-false _ _ h) q
 
-    judged : (v : Verdict) → ofVerdict v (lifts sheet) ws start room ≡ replied n k → Ran sheet ws start n k
-    judged (refused x) q = let z : _≡_ {A = ℕ} 0 1 = cc in absurd (omega arith)
-    judged (fits m rounds) q = lent rounds q
+    judged : (v : Verdict) → verdict sheet ≡ v → ofVerdict v (lifts sheet) ws start room ≡ replied n k → Ran sheet ws start n k
+    judged (refused x) h q = absurd (omega (arith, ap (λ r. r .number) q, decided sheet .above x h))
+    judged (fits m rounds) h q = lent rounds q

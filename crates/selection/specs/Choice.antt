@@ -110,10 +110,22 @@ panel ls ws start = panelFrom ls ws start (inUse New ls)
 
 -- ---- the reply and the output
 
--- a refusal by its number and place, or how many choices and how many words were read
-pub data Reply : Type 0 where
-  refusal : Numbered → Reply
-  replied : (choices words : ℕ) → Reply
+-- what a call replies: its number, a place or a count, and how many random words it read
+pub record Reply : Type 0 where
+  pub number : ℕ
+  pub second : ℕ
+  pub third : ℕ
+
+abbrev pub numbers : ℕ → ℕ → ℕ → Reply
+numbers n a b = record { number = n; second = a; third = b }
+
+-- "The reply is number 0, how many choices, and how many chance words were read, those passed over included."
+abbrev pub replied : (choices words : ℕ) → Reply
+replied n k = numbers 0 n k
+
+-- "A refusal replies number, place and 0 words read"
+abbrev pub refusal : Numbered → Reply
+refusal x = numbers (x .number) (x .place) 0
 
 -- "13. The chance words end before a needed draw is finished. Place: the new round."
 abbrev pub ofPanel : ℕ → Panel → Reply
@@ -160,10 +172,9 @@ abbrev pub writtenOf : Panel → List ℕ → List ℕ
 writtenOf (chosen cs next) out = written cs out
 writtenOf (short r) out = out
 
--- "A refusal replies number, place and 0 words read, and changes nothing lent."
+-- a refusal "changes nothing lent"
 abbrev pub unlessRefused : Reply → List ℕ → List ℕ → List ℕ
-unlessRefused (refusal x) out new = out
-unlessRefused (replied n k) out new = new
+unlessRefused r out new = cond (eqb (r .number) 0) new out
 
 -- the output after the call
 unfoldable pub output : List ℕ → List ℕ → ℕ → List ℕ → List ℕ

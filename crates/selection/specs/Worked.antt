@@ -1,16 +1,15 @@
 -- Small sheets with what is replied and written, as one table to be computed: the document's small rounds worked through, M1 to M11, and
--- the refusals because of what was lent; and the exact shares of a small sheet.
+-- the refusals because of what was lent, all with their numbers and words as literals; and the exact shares of a small sheet.
 use Prim.Native.Nat.{ℕ, _*_, _-_, _^_}
 use mathlib.Core.Bool.{Bool, true, false, not, _&&_}
-use mathlib.Core.List.{List, [], _∷_, _++_}
+use mathlib.Core.List.{List, [], _∷_}
 use lib.Dec.{eqb, ltb}
 use lib.ListN.{length}
 use Rattle.sheet.specs.Sheet.{Lift, sheetOf}
-use Rattle.sheet.specs.Reading.{numbered}
 use Rattle.sheet.specs.Rounds.{sumOf}
 use Rattle.sheet.specs.Worked.{lift, example}
 use Rattle.sheet.specs.declared.Side.the-variants.{New}
-use Rattle.selection.specs.Choice.{liftAt, Reply, refusal, replied, reply, pair, output}
+use Rattle.selection.specs.Choice.{liftAt, Reply, numbers, reply, output}
 use Rattle.selection.specs.Fair.{share}
 
 -- a sheet, random words, a start and an output, with the reply and the output after the call
@@ -22,20 +21,17 @@ pub record Case : Type 0 where
   pub reply : Reply
   pub written : List ℕ
 
--- a round of one choice from the first word on, with a word behind the pair that stays
-abbrev choice : List ℕ → List ℕ → Reply → List ℕ → Case
-choice sheet ws r pair = record { sheet = sheet; words = ws; start = 0; out = 7 ∷ 8 ∷ 9 ∷ []; reply = r; written = pair ++ (9 ∷ []) }
+-- one choice from the first word on, so many words read, with a word behind the pair that stays
+abbrev choice : List ℕ → List ℕ → ℕ → ℕ → ℕ → Case
+choice sheet ws read first second =
+    record { sheet = sheet; words = ws; start = 0; out = 7 ∷ 8 ∷ 9 ∷ []; reply = numbers 0 1 read; written = first ∷ second ∷ 9 ∷ [] }
 
 -- a refusal: the output keeps what it had
 abbrev refused : List ℕ → List ℕ → ℕ → List ℕ → ℕ → ℕ → Case
-refused sheet ws start out n place =
-    record { sheet = sheet; words = ws; start = start; out = out; reply = refusal (numbered n place); written = out }
+refused sheet ws start out n place = record { sheet = sheet; words = ws; start = start; out = out; reply = numbers n place 0; written = out }
 
 abbrev pub sameReply : Reply → Reply → Bool
-sameReply (refusal x) (refusal y) = eqb (x .number) (y .number) && eqb (x .place) (y .place)
-sameReply (refusal x) (replied n k) = false
-sameReply (replied n k) (refusal y) = false
-sameReply (replied n k) (replied m j) = eqb n m && eqb k j
+sameReply r q = eqb (r .number) (q .number) && (eqb (r .second) (q .second) && eqb (r .third) (q .third))
 
 abbrev pub same : List ℕ → List ℕ → Bool
 same [] [] = true
@@ -70,34 +66,34 @@ two h k =
 abbrev noChance : List ℕ
 noChance = sheetOf (lift 1 1 3 1 0 true ∷ lift 2 1 7 1 1 false ∷ [])
 
--- two rounds: the second chooses among two newcomers
+-- new rounds 3 and 70: the second chooses among two newcomers
 abbrev rounds : List ℕ
-rounds = sheetOf (lift 1 1 3 1 0 true ∷ lift 2 1 7 1 1 false ∷ lift 3 0 0 2 1 false ∷ lift 4 0 0 2 1 false ∷ [])
+rounds = sheetOf (lift 1 1 3 3 0 true ∷ lift 2 1 7 3 1 false ∷ lift 3 0 0 70 1 false ∷ lift 4 0 0 70 1 false ∷ [])
 
 abbrev pub cases : List Case
 cases =
     -- M1 to M11 in the document's order; M2 is the document's whole sheet; M11, "always dropped", for each r
-    choice (three 12) (9 ∷ []) (replied 1 1) (pair 1 12 1)
-    ∷ choice example (10 ∷ 0 ∷ []) (replied 1 2) (pair 1 11 2)
-    ∷ choice (three 13) [] (replied 1 0) (pair 1 13 1)
-    ∷ choice newcomers ((2 ^ 64 - 1) ∷ 1 ∷ []) (replied 1 2) (pair 1 2 3)
-    ∷ choice newcomers ((2 ^ 64 - 2) ∷ []) (replied 1 1) (pair 1 3 3)
-    ∷ choice (sheetOf (two true true)) (11 ∷ []) (replied 1 1) (pair 1 21 1)
-    ∷ choice (sheetOf (two true true)) (12 ∷ 17 ∷ []) (replied 1 2) (pair 1 22 1)
-    ∷ choice (sheetOf (two true true)) (12 ∷ 18 ∷ 5 ∷ []) (replied 1 3) (pair 1 21 1)
-    ∷ choice (sheetOf (two false false)) (1 ∷ []) (replied 1 1) (pair 1 22 3)
-    ∷ choice (sheetOf (two false true)) (18 ∷ 0 ∷ []) (replied 1 2) (pair 1 21 2)
-    ∷ choice noChance (0 ∷ 0 ∷ []) (replied 1 2) (pair 1 2 2)
-    ∷ choice noChance (1 ∷ 0 ∷ []) (replied 1 2) (pair 1 2 2)
-    ∷ choice noChance (2 ∷ 0 ∷ []) (replied 1 2) (pair 1 2 2)
-    -- "in rising order, each reading on where the one before stopped", from a start on
+    choice (three 12) (9 ∷ []) 1 0x50200001 0x6000000C
+    ∷ choice example (10 ∷ 0 ∷ []) 2 0x50200002 0x6000000B
+    ∷ choice (three 13) [] 0 0x50200001 0x6000000D
+    ∷ choice newcomers ((2 ^ 64 - 1) ∷ 1 ∷ []) 2 0x50200003 0x60000002
+    ∷ choice newcomers ((2 ^ 64 - 2) ∷ []) 1 0x50200003 0x60000003
+    ∷ choice (sheetOf (two true true)) (11 ∷ []) 1 0x50200001 0x60000015
+    ∷ choice (sheetOf (two true true)) (12 ∷ 17 ∷ []) 2 0x50200001 0x60000016
+    ∷ choice (sheetOf (two true true)) (12 ∷ 18 ∷ 5 ∷ []) 3 0x50200001 0x60000015
+    ∷ choice (sheetOf (two false false)) (1 ∷ []) 1 0x50200003 0x60000016
+    ∷ choice (sheetOf (two false true)) (18 ∷ 0 ∷ []) 2 0x50200002 0x60000015
+    ∷ choice noChance (0 ∷ 0 ∷ []) 2 0x50200002 0x60000002
+    ∷ choice noChance (1 ∷ 0 ∷ []) 2 0x50200002 0x60000002
+    ∷ choice noChance (2 ∷ 0 ∷ []) 2 0x50200002 0x60000002
+    -- "in rising order, each reading on where the one before stopped", from a start on; "words behind the last pair .. keep what they had"
     ∷ record {
       sheet = rounds;
       words = 5 ∷ 0 ∷ 0 ∷ 1 ∷ [];
       start = 1;
       out = 5 ∷ 6 ∷ 7 ∷ 8 ∷ 9 ∷ [];
-      reply = replied 2 3;
-      written = pair 1 2 2 ++ (pair 2 4 3 ++ (9 ∷ []));
+      reply = numbers 0 2 3;
+      written = 0x50600002 ∷ 0x60000002 ∷ 0x58C00003 ∷ 0x60000004 ∷ 9 ∷ [];
     }
     -- 11 before 12, where no word is needed; 12 before 13, and where the words suffice; "13. The chance words end before a needed draw is
     -- finished. Place: the new round."
@@ -105,8 +101,8 @@ cases =
     ∷ refused (three 13) (0 ∷ []) 2 (7 ∷ 8 ∷ []) 11 2
     ∷ refused rounds (0 ∷ []) 1 (7 ∷ 8 ∷ 9 ∷ []) 12 4
     ∷ refused rounds (0 ∷ 0 ∷ 1 ∷ []) 0 (7 ∷ 8 ∷ 9 ∷ []) 12 4
-    ∷ refused rounds (0 ∷ []) 1 (6 ∷ 7 ∷ 8 ∷ 9 ∷ []) 13 1
-    ∷ refused rounds (0 ∷ 0 ∷ []) 0 (6 ∷ 7 ∷ 8 ∷ 9 ∷ []) 13 2
+    ∷ refused rounds (0 ∷ []) 1 (6 ∷ 7 ∷ 8 ∷ 9 ∷ []) 13 3
+    ∷ refused rounds (0 ∷ 0 ∷ []) 0 (6 ∷ 7 ∷ 8 ∷ 9 ∷ []) 13 70
     -- 1 to 10 before them
     ∷ refused [] [] 1 [] 1 0
     ∷ []

@@ -4,6 +4,7 @@ use mathlib.Core.Path.{_≡_, sym, _∙_}
 use lib.ListN.{length, take}
 use lib.Seq.{length-take-le}
 use Rattle.sheet.specs.Sheet.{lifts}
+use Rattle.sheet.specs.Reading.{numbered}
 use Rattle.sheet.specs.Rounds.{inUse}
 use Rattle.sheet.specs.declared.Side.the-variants.{New}
 use Rattle.panel.proofs.Answers.{left, few-rounds, late, narrow, ran-short, ran, wrote, forward, counted, firsts-long, seconds-long}
@@ -34,7 +35,7 @@ seconds c =
 returns : tie.Need-returns
 returns c =
     let a = c .before .before .before .before .args in
-    left (a .out .now) _ (late (lifts (a .sheet .now)) (a .words .now) (a .start) (a .out .now) (a .rounds) (c .if1 .taken))
+    left (numbered 11 _) (a .out .now) _ (omega arith) (late (lifts (a .sheet .now)) (a .words .now) (a .start) (a .out .now) (a .rounds) (c .if1 .taken))
 
 mul-need : tie.Need-mul-need
 mul-need c = omega (arith, c .before .before .before .before .pre .1 .1, few-rounds (lifts (c .before .before .before .before .args .sheet .now)))
@@ -42,7 +43,7 @@ mul-need c = omega (arith, c .before .before .before .before .pre .1 .1, few-rou
 returns-2 : tie.Need-returns-2
 returns-2 c =
     let a = c .before .before .before .before .before .args in
-    left (a .out .now) _ (narrow (lifts (a .sheet .now)) (a .words .now) (a .start) (a .out .now) (a .rounds) (c .before .if1 .left) (c .if2 .taken))
+    left (numbered 12 _) (a .out .now) _ (omega arith) (narrow (lifts (a .sheet .now)) (a .words .now) (a .start) (a .out .now) (a .rounds) (c .before .if1 .left) (c .if2 .taken))
 
 select-all-requires : tie.Need-select-all-requires
 select-all-requires c κs = (c .before .before .before .before .before .pre .0, c .before .before .before .before .before .pre .1 .0)
@@ -50,7 +51,7 @@ select-all-requires c κs = (c .before .before .before .before .before .pre .0, 
 returns-3 : tie.Need-returns-3
 returns-3 c =
     let a = c .before .before .before .before .before .before .before .before .args in
-    left (a .out .now) _
+    left (numbered 13 _) (a .out .now) _ (omega arith)
     (ran-short (lifts (a .sheet .now)) (a .words .now) (a .start) (a .out .now) (a .rounds) (c .before .before .before .before .if1 .left) (c .before .before .before .if2 .left) (c .before .before .select-all .result) (c .before .before .select-all .ensures) (c .if3 .taken))
 
 array-share-prefix-firsts : tie.Need-array-share-prefix-firsts
