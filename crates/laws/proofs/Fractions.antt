@@ -38,6 +38,14 @@ pub ≈-≲ : {q r s : Fraction} → q ≈ r → r ≲ s → q ≲ s
   right = k .right;
 }
 
+-- what is at most a fraction is at most what equals that
+pub ≲-≈ : {q r s : Fraction} → q ≲ r → r ≈ s → q ≲ s
+≲-≈ {q} {r} {s} h k = record {
+  cross = le-of-mul-le-mul-right {k = r .den} (omega (arith, mul-le-mul-right (s .den) (h .cross), ap (λ t. t * q .den) (k .cross))) (h .right);
+  left = h .left;
+  right = k .right;
+}
+
 -- the numerator by an equation
 pub ≈-num : {q : Fraction} {n m S : ℕ} → n ≡ m → q ≈ n // S → q ≈ m // S
 ≈-num e h = rw e at h

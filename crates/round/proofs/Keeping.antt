@@ -1,6 +1,6 @@
--- Keeping: each lift keeps the smaller of its weights, and a coupling keeps no more than a row's and a column's sum.
+-- Keeping: a coupling keeps no more than the smaller weights, and Keyfitz's update is one that keeps them all, as each lift does.
 use Prim.Native.Nat.{ℕ, _+_, _*_, _-_, _≤_, _<_, min}
-use mathlib.Core.Path.{_≡_, refl, ap, _∙_, fun-ext}
+use mathlib.Core.Path.{_≡_, refl, sym, ap, _∙_, fun-ext}
 use mathlib.Core.Bool.{Bool, true, false}
 use mathlib.Core.List.{List, map}
 use native.Mathlib.Nat.{mul-pos, mul-le-mul-right, min-eq-left, add-zero}
@@ -9,21 +9,21 @@ use lib.ListN.{length}
 use lib.Dec.{leb, eqb}
 use borrow.Author.Tests.{leb-true, leb-false}
 use Rattle.laws.specs.Sum.{total}
-use Rattle.laws.specs.Fraction.{_//_, _⊗_, _≈_, sum}
+use Rattle.laws.specs.Fraction.{Fraction, _//_, _⊗_, _≈_, sum}
 use Rattle.laws.specs.Plan.{after, paths, weight, mass}
 use Rattle.laws.proofs.Tests.{eqb-comm}
 use Rattle.laws.proofs.Sums.{over-ext, Σ-mono, Σ-mul, Σ-map, Σ-term}
-use Rattle.laws.proofs.Fractions.{≈-trans, ≈-num, ⊕-same, ⊗-≈, sum-≈}
+use Rattle.laws.proofs.Fractions.{≈-refl, ≈-sym, ≈-trans, ≲-≈, ≈-num, ⊕-same, ⊗-≈, sum-≈}
 use Rattle.laws.proofs.Masses.{weighed}
-use Rattle.round.specs.Round.{liftAt, S, sent, U, D, oldWeight, Weight, weights, weightAt, Fitting}
+use Rattle.round.specs.Round.{liftAt, S, sent, U, D, oldWeight, Weight, weights, weightAt, G, Fitting}
 use Rattle.round.specs.Choice.{Selection, fresh, preliminary, keyfitz, select, plan, isHeld}
 use Rattle.round.specs.Share.{overInitial, overHeld, chooses}
-use Rattle.round.specs.Keep.{kept, Coupling, tickets, keptTickets, Keeps, KeepsTheorem}
+use Rattle.round.specs.Keep.{kept, Coupling, tickets, keptTickets, Attained, smaller, Best, KeepsTheorem}
 use Rattle.round.specs.declared.Donors.the-variants.{One}
 use Rattle.round.specs.declared.Held.the-variants.{Neither, Single}
 use Rattle.round.specs.declared.Lift.{Lift}
-use Rattle.round.proofs.Weights.{old-sum, new-sum, one-positive}
-use Rattle.round.proofs.Keyfitz.{none, smaller, stays}
+use Rattle.round.proofs.Weights.{old-sum, new-sum, losses, one-positive}
+use Rattle.round.proofs.Keyfitz.{none, passes, unit-of, arrives, leaves, own, stays}
 use Rattle.round.proofs.Shares.{weight-at, length-weights, every-fresh, every-update}
 
 -- ---- couplings
@@ -48,6 +48,52 @@ module _ (ws : List Weight) (times : ℕ) (grid : ℕ → ℕ → ℕ) (c : Coup
       = λ i l. min-times (weightAt ws i .old) (weightAt ws i .new) (grid i i) times
       (rw (c .rows i l) at (Σ-term (length ws) i (λ j. grid i j) l)) (rw (c .columns i l) at (Σ-term (length ws) i (λ j. grid j i) l)) in
       rw (Σ-mul (length ws) (λ i. smaller (weightAt ws i)) times ∙ ap (λ t. t * times) (Σ-map smaller none ws)) at (Σ-mono (length ws) term)
+
+-- ---- the best, of any two lists of weights with equal sums
+
+module _ (ws : List Weight) (N : ℕ) (p : 0 < N) (e : total (map (λ w. w .old) ws) ≡ N) (f : total (map (λ w. w .new) ws) ≡ N) where
+  -- Keyfitz's update is a coupling: from each unit its old weight goes, and to each its new weight comes
+  coupled : (H : ℕ) → (0 < G ws → G ws ≡ H) → Coupling ws H (λ i j. passes ws H j i)
+  coupled H h = let b = losses ws (e ∙ sym f) in record { rows = leaves ws H h b; columns = arrives ws H h b }
+
+  -- it keeps the smaller weights
+  attained : Attained ws (total (map smaller ws) // N)
+  attained =
+      let (H, q, h) = unit-of (G ws) in let c = coupled H h in let g : ℕ → ℕ → ℕ = λ i j. passes ws H j i in
+      let t : tickets (length ws) g ≡ N * H = all-tickets ws H g c ∙ ap (λ n. n * H) e in
+      record {
+        times = H;
+        grid = g;
+        coupling = c;
+        some = rw t (mul-pos p q);
+        kept = rw (t, own ws H) (record { cross = omega arith; left = omega arith; right = omega arith });
+      }
+
+  best : Best ws N (total (map smaller ws) // N)
+  best =
+      record {
+        most = λ times grid c.
+            let m = mul-le-mul-right N (at-most ws times grid c) in
+            rw (all-tickets ws times grid c, e) (record { cross = omega arith; left = omega arith; right = omega arith });
+        reached = attained;
+        exactly = ≈-refl p;
+      }
+
+-- what equals the best part is it too
+pub best-≈ : {ws : List Weight} {N : ℕ} {q r : Fraction} → q ≈ r → Best ws N q → Best ws N r
+best-≈ e b =
+    record {
+      most = λ times grid c. ≲-≈ (b .most times grid c) (⊗-≈ (≈-refl (omega arith)) e);
+      reached = let a = b .reached in
+          record {
+            times = a .times;
+            grid = a .grid;
+            coupling = a .coupling;
+            some = a .some;
+            kept = ≈-trans (a .kept) (⊗-≈ (≈-refl (omega arith)) e);
+          };
+      exactly = ≈-trans (≈-sym e) (b .exactly);
+    }
 
 -- ---- what is kept
 
@@ -85,20 +131,7 @@ module _ (T : ℕ) (ls : List Lift) (f : Fitting (One T) ls) (whole : U 1 ls ≡
       ≈-num (add-zero (total (map smaller ws)))
       (⊕-same (≈-trans (sum-≈ (length ls) (λ i l. ⊗-≈ (old-part i l) (keeps-here i l))) here-part) elsewhere-part)
 
-  kept-most : Keeps T ls
-  kept-most = record {
-    most = λ times grid c.
-        let ws = weights (One T) ls in let d = kept (One T) ls .den in
-        let e : tickets (length ls) grid ≡ D (One T) ls * S ls * times
-        = rw (length-weights (One T) ls, old-sum (One T) ls) at (all-tickets ws times grid c) in
-        let m : keptTickets (length ls) grid ≤ total (map smaller ws) * times = rw (length-weights (One T) ls) at (at-most ws times grid c) in
-        rw e (record {
-          cross = omega (arith, mul-le-mul-right d m, ap (λ x. x * times) (kept-sum .cross));
-          left = omega arith;
-          right = omega (arith, kept-sum .left);
-        });
-    exactly = kept-sum;
-  }
-
 pub keeps : KeepsTheorem
-keeps = kept-most
+keeps T ls f whole =
+    best-≈ (≈-sym (kept-sum T ls f whole))
+    (best (weights (One T) ls) (D (One T) ls * S ls) (mul-pos (one-positive (f .donate)) (f .positive)) (old-sum (One T) ls) (new-sum (One T) ls))

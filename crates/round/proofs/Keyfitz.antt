@@ -1,5 +1,5 @@
 -- Keyfitz's update on any two lists of weights with equal sums: of a unit's old weight the smaller of both weights stays with it, and its loss goes to the others by their growths.
-use Prim.Native.Nat.{ℕ, zero, suc, _+_, _*_, _-_, _≤_, _<_, min}
+use Prim.Native.Nat.{ℕ, zero, suc, _+_, _*_, _-_, _≤_, _<_}
 use mathlib.Core.Path.{_≡_, refl, sym, ap, ap₂, _∙_}
 use mathlib.Core.Bool.{Bool, true, false, cond}
 use mathlib.Core.List.{List, map}
@@ -11,20 +11,18 @@ use borrow.Author.Tests.{leb-true, leb-false, eq-eqb}
 use Rattle.laws.specs.Sum.{Σ, total, indicator}
 use Rattle.laws.specs.Fraction.{_//_, _⊗_, _≈_, sum}
 use Rattle.laws.specs.Plan.{Plan, done, draw, Every, Drawable, mass}
+use Rattle.laws.proofs.Tests.{eqb-comm}
 use Rattle.laws.proofs.Sums.{over-ext, Σ-add, Σ-mul, Σ-step, Σ-one, Σ-map, map-le}
 use Rattle.laws.proofs.Fractions.{≈-refl, ⊗-≈, ⊗-part, cancel, sum-same}
 use Rattle.laws.proofs.Masses.{mass-even, mass-hits}
 use Rattle.round.specs.Round.{Weight, weightAt, growth, G}
 use Rattle.round.specs.Choice.{selection, stayOr, replacement, keyfitz}
 use Rattle.round.specs.Share.{chooses}
+use Rattle.round.specs.Keep.{smaller}
 use Rattle.round.proofs.Weights.{loss, losses, dropped-G}
 
 abbrev pub none : Weight
 none = record { old = 0; new = 0 }
-
--- the smaller of both weights
-abbrev pub smaller : Weight → ℕ
-smaller w = min (w .old) (w .new)
 
 -- ---- one unit
 
@@ -71,7 +69,7 @@ unit ws i j N H u p q h =
 -- ---- all units together
 
 -- a common denominator: G, or 1 where G is 0
-unit-of : (G : ℕ) → (H : ℕ) × (0 < H) × (0 < G → G ≡ H)
+pub unit-of : (G : ℕ) → (H : ℕ) × (0 < H) × (0 < G → G ≡ H)
 unit-of zero = (1, omega arith, omega arith)
 unit-of (suc G) = (suc G, omega arith, λ _. refl)
 
@@ -79,23 +77,40 @@ times : (G H g : ℕ) → g ≤ G → (0 < G → G ≡ H) → G * g ≡ g * H
 times G H zero l h = omega arith
 times G H (suc g) l h = rw (← h (omega arith)) (omega arith)
 
-numerators : (ws : List Weight) (j H : ℕ) → j < length ws → (0 < G ws → G ws ≡ H) → total (map loss ws) ≡ G ws
-    → Σ (length ws) (passes ws H j) ≡ weightAt ws j .new * H
-unfolding G
-numerators ws j H l h b =
-    Σ-add (length ws) (λ i. smaller (weightAt ws i) * (indicator (eqb i j) * H)) (λ i. loss (weightAt ws i) * growth (weightAt ws j))
+-- what comes to unit j of all units, times H: what stays with it, and its part of what each gives, if as much is given as taken
+received : (ws : List Weight) (stay : ℕ → ℕ) (given taken : Weight → ℕ) (H : ℕ) → (0 < total (map taken ws) → total (map taken ws) ≡ H)
+    → total (map given ws) ≡ total (map taken ws) → (j : ℕ) → j < length ws
+    → Σ (length ws) (λ i. stay i * (indicator (eqb i j) * H) + given (weightAt ws i) * taken (weightAt ws j))
+    ≡ (stay j + taken (weightAt ws j)) * H
+received ws stay given taken H h b j l =
+    Σ-add (length ws) (λ i. stay i * (indicator (eqb i j) * H)) (λ i. given (weightAt ws i) * taken (weightAt ws j))
     ∙ ap₂ _+_
-    (over-ext _+_ 0 (length ws) {g = λ i. smaller (weightAt ws i) * H * indicator (eqb i j)} (λ i _. omega arith) ∙ Σ-one (length ws) j (λ i. smaller (weightAt ws i) * H) l)
-    (Σ-mul (length ws) (λ i. loss (weightAt ws i)) (growth (weightAt ws j)) ∙ ap (λ t. t * growth (weightAt ws j)) (Σ-map loss none ws ∙ b)
-    ∙ times (total (map growth ws)) H (growth (weightAt ws j)) (map-le growth none ws j l) h)
-    ∙ sym (add-mul (smaller (weightAt ws j)) (growth (weightAt ws j)) H) ∙ ap (λ t. t * H) (omega arith)
+    (over-ext _+_ 0 (length ws) {g = λ i. stay i * H * indicator (eqb i j)} (λ i _. omega arith) ∙ Σ-one (length ws) j (λ i. stay i * H) l)
+    (Σ-mul (length ws) (λ i. given (weightAt ws i)) (taken (weightAt ws j)) ∙ ap (λ t. t * taken (weightAt ws j)) (Σ-map given none ws ∙ b)
+    ∙ times (total (map taken ws)) H (taken (weightAt ws j)) (map-le taken none ws j l) h)
+    ∙ sym (add-mul (stay j) (taken (weightAt ws j)) H)
+
+module _ (ws : List Weight) (H : ℕ) (h : 0 < G ws → G ws ≡ H) (b : total (map loss ws) ≡ G ws) where
+  -- to a unit comes its new weight
+  pub arrives : (j : ℕ) → j < length ws → Σ (length ws) (passes ws H j) ≡ weightAt ws j .new * H
+  unfolding G
+  arrives j l = received ws (λ i. smaller (weightAt ws i)) loss growth H h b j l ∙ ap (λ t. t * H) (omega arith)
+
+  -- from a unit goes its old weight: the same with losses and growths exchanged
+  pub leaves : (i : ℕ) → i < length ws → Σ (length ws) (λ j. passes ws H j i) ≡ weightAt ws i .old * H
+  unfolding G
+  leaves i l =
+      over-ext _+_ 0 (length ws) {g = λ j. smaller (weightAt ws i) * (indicator (eqb j i) * H) + growth (weightAt ws j) * loss (weightAt ws i)}
+      (λ j _. rw (eqb-comm i j) (omega arith))
+      ∙ received ws (λ _. smaller (weightAt ws i)) growth loss H (λ p. b ∙ h (rw b at p)) (sym b) i l ∙ ap (λ t. t * H) (omega arith)
 
 either : (a b : ℕ) → (a - b) * (b - a) ≡ 0
 either zero b = simp (zero-sub, zero-mul)
 either (suc a) zero = simp (zero-sub, mul-zero)
 either (suc a) (suc b) = simp suc-sub-suc (either a b)
 
-own : (ws : List Weight) (H : ℕ) → Σ (length ws) (λ i. passes ws H i i) ≡ total (map smaller ws) * H
+-- with its own unit stays the smaller weight
+pub own : (ws : List Weight) (H : ℕ) → Σ (length ws) (λ i. passes ws H i i) ≡ total (map smaller ws) * H
 own ws H =
     over-ext _+_ 0 (length ws) {g = λ i. smaller (weightAt ws i) * H} (λ i _. rw (eq-eqb i i refl, either (weightAt ws i .old) (weightAt ws i .new)) (omega arith))
     ∙ Σ-mul (length ws) (λ i. smaller (weightAt ws i)) H ∙ ap (λ t. t * H) (Σ-map smaller none ws)
@@ -125,7 +140,7 @@ module _ (ws : List Weight) (N : ℕ) (p : 0 < N) (e : total (map (λ w. w .old)
   pub updated : (j : ℕ) → j < length ws → sum (length ws) (λ i. weightAt ws i .old // N ⊗ mass (chooses j) (keyfitz ws i)) ≈ weightAt ws j .new // N
   updated j l =
       let (H, q, h) = unit-of (G ws) in
-      cancel H (rw (numerators ws j H l h (losses ws (e ∙ sym f))) at
+      cancel H (rw (arrives ws H h (losses ws (e ∙ sym f)) j l) at
       (sum-same (length ws) (mul-pos p q) (λ i k. unit ws i j N H l p q (common i H k h))))
 
   -- the smaller weights stay

@@ -1,20 +1,49 @@
--- The document's cases and the exact shares of two small rounds, computed.
+-- The document's cases and figures, and the exact shares and keeping of small rounds, computed.
+use Prim.Native.Nat.{ℕ, zero, suc, _*_, _<_}
 use mathlib.Core.Path.{_≡_, refl}
 use mathlib.Core.Bool.{true}
-use Rattle.laws.specs.Sum.{over, total, totalBy}
+use native.Mathlib.Omega.{arith}
+use Rattle.laws.specs.Sum.{over, Σ, total, totalBy}
 use Rattle.laws.specs.Interval.{pick}
 use Rattle.laws.specs.Plan.{after, paths, weight}
 use Rattle.draw.specs.Draw.{drawFrom}
 use Rattle.draw.specs.Run.{run}
-use Rattle.round.specs.Round.{S, U, D, oldWeight, newWeight, weights, G}
+use Rattle.round.specs.Round.{S, U, D, oldWeight, newWeight, weights, weightAt, G}
 use Rattle.round.specs.Choice.{fresh, firstOdds, preliminary, stayOr, replacement, keyfitz, select, plan, outcome}
 use Rattle.round.specs.Share.{overInitial, overHeld, share}
-use Rattle.round.specs.Worked.{cases, allRight, rightShares}
+use Rattle.round.specs.Keep.{kept, Coupling}
+use Rattle.round.specs.declared.Donors.the-variants.{One}
+use Rattle.round.specs.Worked.{cases, allRight, rightFigures, rightShares, exchanged, rule, rightKeeping}
 
 pub all-right : allRight cases ≡ true
 unfolding total totalBy pick after drawFrom run S U D oldWeight newWeight weights G fresh firstOdds preliminary stayOr replacement keyfitz select plan outcome
 all-right = refl
 
+pub exact-figures : rightFigures ≡ true
+unfolding total totalBy S U D oldWeight newWeight weights G
+exact-figures = refl
+
 pub exact-shares : rightShares ≡ true
 unfolding over total totalBy pick after paths weight S U D oldWeight newWeight weights G fresh firstOdds preliminary stayOr replacement keyfitz select plan overInitial overHeld share
 exact-shares = refl
+
+pub exact-keeping : rightKeeping ≡ true
+unfolding over total totalBy pick after paths weight S U D oldWeight newWeight weights G fresh firstOdds preliminary stayOr replacement keyfitz select plan overInitial overHeld kept
+exact-keeping = refl
+
+row : (i : ℕ) → i < 2 → Σ 2 (λ j. rule i j) ≡ weightAt (weights (One 3) exchanged) i .old * 1
+unfolding over total totalBy S U D oldWeight newWeight weights
+row zero l = refl
+row (suc zero) l = refl
+row (suc (suc i)) l = absurd (omega arith)
+
+column : (j : ℕ) → j < 2 → Σ 2 (λ i. rule i j) ≡ weightAt (weights (One 3) exchanged) j .new * 1
+unfolding over total totalBy S U D oldWeight newWeight weights
+column zero l = refl
+column (suc zero) l = refl
+column (suc (suc j)) l = absurd (omega arith)
+
+-- the rule is a coupling of these weights
+pub coupled : Coupling (weights (One 3) exchanged) 1 rule
+unfolding weights
+coupled = record { rows = row; columns = column }

@@ -1,4 +1,5 @@
--- How often a held lift is kept, and that no coupling with the same proportions keeps more ("What demand 3 weighs" of document 01).
+-- How often a held lift is kept: no coupling with the same proportions keeps more, and one keeps as much ("What demand 3 weighs" of
+-- document 01).
 use Prim.Native.Nat.{ℕ, _*_, _<_, min}
 use mathlib.Core.Path.{_≡_}
 use mathlib.Core.List.{List, map}
@@ -31,14 +32,29 @@ tickets n grid = Σ n (λ i. Σ n (λ j. grid i j))
 abbrev pub keptTickets : ℕ → (ℕ → ℕ → ℕ) → ℕ
 keptTickets n grid = Σ n (λ i. grid i i)
 
--- "In a round with one donor and U = T, every rule keeps at most as many tickets as all its tickets times what the ways weigh
--- whose lift is held in their own marking."
-pub record Keeps (T : ℕ) (ls : List Lift) : Type 0 where
-  pub most : (times : ℕ) (grid : ℕ → ℕ → ℕ) → Coupling (weights (One T) ls) times grid
-      → keptTickets (length ls) grid // 1 ≲ tickets (length ls) grid // 1 ⊗ kept (One T) ls
-  -- what is kept is the sum of the smaller of both weights over D × S
-  pub exactly : kept (One T) ls ≈ total (map (λ w. min (w .old) (w .new)) (weights (One T) ls)) // (D (One T) ls * S ls)
+-- some coupling of the weights has tickets and keeps exactly this part of them
+pub record Attained (ws : List Weight) (part : Fraction) : Type 0 where
+  pub times : ℕ
+  pub grid : ℕ → ℕ → ℕ
+  pub coupling : Coupling ws times grid
+  pub some : 0 < tickets (length ws) grid
+  pub kept : keptTickets (length ws) grid // 1 ≈ tickets (length ws) grid // 1 ⊗ part
 
--- proved: in every round that a fitting sheet gives, with one donor and U = T
+-- the smaller of both weights
+abbrev pub smaller : Weight → ℕ
+smaller w = min (w .old) (w .new)
+
+-- of its tickets no coupling of the weights keeps a larger part than this, and one keeps it; old and new weights each sum to N
+pub record Best (ws : List Weight) (N : ℕ) (part : Fraction) : Type 0 where
+  -- "every rule keeps at most as many tickets as all its tickets times" this part
+  pub most : (times : ℕ) (grid : ℕ → ℕ → ℕ) → Coupling ws times grid
+      → keptTickets (length ws) grid // 1 ≲ tickets (length ws) grid // 1 ⊗ part
+  -- and a coupling that keeps as much exists: the bound is reached
+  pub reached : Attained ws part
+  -- the part is the sum of the smaller of both weights over N
+  pub exactly : part ≈ total (map smaller ws) // N
+
+-- proved: of what the ways keep in every round that a fitting sheet gives "with one donor and U = T"; N is D × S
 abbrev pub KeepsTheorem : Type 0
-KeepsTheorem = (T : ℕ) (ls : List Lift) → Fitting (One T) ls → U 1 ls ≡ T → Keeps T ls
+KeepsTheorem =
+    (T : ℕ) (ls : List Lift) → Fitting (One T) ls → U 1 ls ≡ T → Best (weights (One T) ls) (D (One T) ls * S ls) (kept (One T) ls)

@@ -1,17 +1,21 @@
--- The document's small rounds worked through, M1 to M11, as one table; and the exact shares of two small rounds, to be computed.
+-- The document's small rounds worked through, M1 to M11, as one table, and its figures; and the exact shares and keeping of small rounds: to
+-- be computed.
 use Prim.Native.Nat.{ℕ, _*_, _-_, _^_}
 use mathlib.Core.Bool.{Bool, true, false, _&&_}
-use mathlib.Core.List.{List, [], _∷_}
+use mathlib.Core.List.{List, [], _∷_, map}
 use lib.Dec.{ltb, eqb}
+use lib.ListN.{getD}
 use Rattle.draw.specs.Draw.{largest, drawAt}
+use Rattle.draw.specs.Worked.{same as sameDrawn}
 use Rattle.draw.specs.declared.Drawn.{Drawn}
 use Rattle.draw.specs.declared.Drawn.the-variants.{Value, Short as Ended}
-use Rattle.round.specs.Round.{liftAt, S}
+use Rattle.round.specs.Round.{liftAt, S, D, weights, G}
 use Rattle.round.specs.Choice.{selected}
 use Rattle.round.specs.Share.{share}
+use Rattle.round.specs.Keep.{kept, tickets, keptTickets}
 use Rattle.round.specs.Slices.{lift}
 use Rattle.round.specs.declared.Donors.{Donors}
-use Rattle.round.specs.declared.Donors.the-variants.{One, Two}
+use Rattle.round.specs.declared.Donors.the-variants.{None, One, Two}
 use Rattle.round.specs.declared.Held.{Held}
 use Rattle.round.specs.declared.Held.the-variants.{Neither, Single, Both}
 use Rattle.round.specs.declared.Lift.{Lift}
@@ -29,11 +33,11 @@ sameSelected (At i o n) Short = false
 sameSelected Short (At j p m) = false
 sameSelected Short Short = true
 
-abbrev pub sameDrawn : Drawn → Drawn → Bool
-sameDrawn (Value v n) (Value w m) = eqb v w && eqb n m
-sameDrawn (Value v n) Ended = false
-sameDrawn Ended (Value w m) = false
-sameDrawn Ended Ended = true
+abbrev pub same : List ℕ → List ℕ → Bool
+same [] [] = true
+same [] (y ∷ ys) = false
+same (x ∷ xs) [] = false
+same (x ∷ xs) (y ∷ ys) = eqb x y && same xs ys
 
 -- whether the definitions give the answer
 abbrev pub right : Case → Bool
@@ -56,7 +60,26 @@ two = lift 1 1 1 ∷ lift 3 2 1 ∷ []
 abbrev noChance : List Lift
 noChance = lift 3 1 0 ∷ lift 7 1 1 ∷ []
 
--- M1 to M11 in the document's order; M11, "always dropped", for each r
+-- whether the round's old and new weights are these
+abbrev pub rightWeights : Donors → List Lift → List ℕ → List ℕ → Bool
+rightWeights ds ls olds news = same (map (λ w. w .old) (weights ds ls)) olds && same (map (λ w. w .new) (weights ds ls)) news
+
+-- "old weights 20, 30, 50, new 40, 10, 50, G 20" and "D 18, old weights 12 and 24, new 18 and 18"
+abbrev pub rightFigures : Bool
+rightFigures =
+    rightWeights (One 10) three (20 ∷ 30 ∷ 50 ∷ []) (40 ∷ 10 ∷ 50 ∷ [])
+    && (eqb (G (weights (One 10) three)) 20
+    && (eqb (D (Two 4 6) two) 18 && rightWeights (Two 4 6) two (12 ∷ 24 ∷ []) (18 ∷ 18 ∷ [])))
+
+-- a newcomer of measure 1, alone
+abbrev alone : List Lift
+alone = lift 0 0 1 ∷ []
+
+-- the first shrinks, both others grow: old weights 24, 6, 6, new 6, 12, 18, growths above zero 6 and 12, G 18
+abbrev bothGrow : List Lift
+bothGrow = lift 4 1 1 ∷ lift 1 1 2 ∷ lift 1 1 3 ∷ []
+
+-- M1 to M11 in the document's order, M11, "always dropped", for each r; then sentences of it that no M shows
 abbrev pub cases : List Case
 cases =
     chosen (One 10) three (Single 1) (9 ∷ []) (At 1 1 1)
@@ -72,15 +95,40 @@ cases =
     ∷ chosen (One 10) noChance (Single 0) (0 ∷ 0 ∷ []) (At 1 2 2)
     ∷ chosen (One 10) noChance (Single 0) (1 ∷ 0 ∷ []) (At 1 2 2)
     ∷ chosen (One 10) noChance (Single 0) (2 ∷ 0 ∷ []) (At 1 2 2)
+    -- "A draw below 1 uses a word too."
+    ∷ chosen None alone Neither [] Short
+    ∷ chosen None alone Neither (5 ∷ []) (At 0 3 1)
+    -- "it stays if r is less than its new weight", which is 6: r is 5, and in the cases after this one 6
+    ∷ chosen (One 6) bothGrow (Single 0) (29 ∷ []) (At 0 1 1)
+    -- "draw q below G and take the lift in whose stretch q falls, the growths above zero laid end to end in lift order": q is 5, and 6
+    ∷ chosen (One 6) bothGrow (Single 0) (30 ∷ 23 ∷ []) (At 1 2 2)
+    ∷ chosen (One 6) bothGrow (Single 0) (30 ∷ 24 ∷ []) (At 2 2 2)
     ∷ []
 
 -- whether the lift at place j has exactly b over S, multiplied out
 abbrev pub rightShare : Donors → List Lift → ℕ → Bool
 rightShare ds ls j = eqb (share ds ls j .num * S ls) (liftAt ls j .new * share ds ls j .den) && ltb 0 (share ds ls j .den)
 
--- one donor that keeps a lift elsewhere, and two donors that do: one lift grows, another shrinks
+-- old 1, 2, new 2, 1, of one donor: the first lift grows, the second shrinks
+abbrev pub exchanged : List Lift
+exchanged = lift 1 1 2 ∷ lift 2 1 1 ∷ []
+
+-- old 1, 1, new 2, 1, of two donors
+abbrev ofTwoDonors : List Lift
+ofTwoDonors = lift 1 1 2 ∷ lift 1 2 1 ∷ []
+
+-- where each donor has a lift elsewhere
 abbrev pub rightShares : Bool
 rightShares =
-    rightShare (One 4) (lift 1 1 2 ∷ lift 2 1 1 ∷ []) 0
-    && (rightShare (One 4) (lift 1 1 2 ∷ lift 2 1 1 ∷ []) 1
-    && (rightShare (Two 2 3) (lift 1 1 2 ∷ lift 1 2 1 ∷ []) 0 && rightShare (Two 2 3) (lift 1 1 2 ∷ lift 1 2 1 ∷ []) 1))
+    rightShare (One 4) exchanged 0 && (rightShare (One 4) exchanged 1 && (rightShare (Two 2 3) ofTwoDonors 0 && rightShare (Two 2 3) ofTwoDonors 1))
+
+-- "held lift by chosen lift": a coupling of the old weights 3 and 6 with the new weights 6 and 3, where the donor lost nothing
+abbrev pub rule : ℕ → ℕ → ℕ
+rule i j = getD (getD ((3 ∷ 0 ∷ []) ∷ (3 ∷ 3 ∷ []) ∷ []) i []) j 0
+
+-- "It keeps the tickets where both lifts are one.": 6 of 9, and so much "the ways weigh whose lift is held in their own marking"
+abbrev pub rightKeeping : Bool
+rightKeeping =
+    eqb (tickets 2 rule) 9
+    && (eqb (keptTickets 2 rule) 6
+    && (eqb (kept (One 3) exchanged .num * 9) (6 * kept (One 3) exchanged .den) && ltb 0 (kept (One 3) exchanged .den)))

@@ -2,23 +2,22 @@
 use Prim.Native.Nat.{ℕ, zero, suc, _*_, _≤_, _<_}
 use mathlib.Core.Path.{_≡_, refl, ap, _∙_}
 use mathlib.Core.List.{List, [], _∷_, map}
-use native.Mathlib.Nat.{mul-le-mul-right, le-of-mul-le-mul-right}
 use native.Mathlib.Omega.{arith}
 use lib.Dec.{ltb}
 use lib.ListN.{length, getD, length-map}
 use borrow.Author.Tests.{ltb-true}
-use Rattle.laws.specs.Fraction.{Fraction, _//_, _⊗_, _≈_, _≲_}
+use Rattle.laws.specs.Fraction.{Fraction, _//_, _≈_}
 use Rattle.laws.specs.Plan.{paths, weight}
-use Rattle.laws.proofs.Fractions.{≈-refl, ≈-sym, ≈-trans, ⊗-≈}
-use Rattle.round.specs.Round.{liftAt as roundLiftAt, U, weights}
+use Rattle.laws.proofs.Fractions.{≈-sym, ≈-trans}
+use Rattle.round.specs.Round.{liftAt as roundLiftAt, U, D, weights}
 use Rattle.round.specs.Choice.{plan, isHeld}
 use Rattle.round.specs.Share.{chooses, share as roundShare}
-use Rattle.round.specs.Keep.{Coupling, tickets, keptTickets, kept as roundKept}
+use Rattle.round.specs.Keep.{kept as roundKept, Best}
 use Rattle.round.specs.Slices.{lift}
 use Rattle.round.specs.declared.Held.{Held}
 use Rattle.round.specs.declared.Donors.the-variants.{One}
 use Rattle.round.proofs.Shares.{shares as round-shares}
-use Rattle.round.proofs.Keeping.{keeps as round-keeps}
+use Rattle.round.proofs.Keeping.{best-≈, keeps as round-keeps}
 use Rattle.sheet.specs.Sheet.{mostRounds, Lift, lifts, sheetOf}
 use Rattle.sheet.specs.Rounds.{named, inUse, sumOf, donors, ofRound}
 use Rattle.sheet.specs.Law.{Fitting}
@@ -54,14 +53,6 @@ new-at r ls j = go (ofRound r ls) j
     go (u ∷ us) zero = refl
     go (u ∷ us) (suc j) = go us j
 
-≲-≈ : {q r s : Fraction} → q ≲ r → r ≈ s → q ≲ s
-≲-≈ {q} {r} {s} h k =
-    record {
-      cross = le-of-mul-le-mul-right {k = r .den} (omega (arith, mul-le-mul-right (s .den) (h .cross), ap (λ t. t * q .den) (k .cross))) (h .right);
-      left = h .left;
-      right = k .right;
-    }
-
 module _ {ws : List ℕ} (f : Fitting ws) {r : ℕ} (low : 1 ≤ r) (high : r ≤ mostRounds) (some : 0 < named New r (lifts ws)) where
   fair-shares : (j : ℕ) → j < length (ofRound r (lifts ws)) → share (lifts ws) r j ≈ liftAt r (lifts ws) j .new .measure // sumOf New r (lifts ws)
   unfolding share roundShare
@@ -88,15 +79,12 @@ module _ {ws : List ℕ} (f : Fitting ws) {r : ℕ} (low : 1 ≤ r) (high : r �
   unfolding donorsOf
   one-donor t e = rw e
 
-  fair-keeps : (t : ℕ) → donors r (lifts ws) ≡ t ∷ [] → U 1 (liftsOf r (lifts ws)) ≡ sumOf Old t (lifts ws) → (times : ℕ) (grid : ℕ → ℕ → ℕ)
-      → Coupling (weights (donorsOf r (lifts ws)) (liftsOf r (lifts ws))) times grid
-      → keptTickets (length (ofRound r (lifts ws))) grid // 1 ≲ tickets (length (ofRound r (lifts ws))) grid // 1 ⊗ kept (lifts ws) r
-  fair-keeps t e u times grid c =
-      let ls = lifts ws in
-      let o = one-donor t e in
-      let k = round-keeps (sumOf Old t ls) (liftsOf r ls) (rw o at (round-fits f low high some)) u .most times grid (rw o at c) in
+  fair-best : (t : ℕ) → donors r (lifts ws) ≡ t ∷ [] → U 1 (liftsOf r (lifts ws)) ≡ sumOf Old t (lifts ws)
+      → let ls = lifts ws in Best (weights (donorsOf r ls) (liftsOf r ls)) (D (donorsOf r ls) (liftsOf r ls) * sumOf New r ls) (kept ls r)
+  fair-best t e u =
+      let ls = lifts ws in let o = one-donor t e in
       let m : kept ls r ≈ roundKept (One (sumOf Old t ls)) (liftsOf r ls) = rw o at kept-moved in
-      ≲-≈ (rw (length-lifts r ls) at k) (⊗-≈ (≈-refl (omega arith)) (≈-sym m))
+      rw (o, ← S-round f low high) (best-≈ (≈-sym m) (round-keeps (sumOf Old t ls) (liftsOf r ls) (rw o at (round-fits f low high some)) u))
 
 -- where a list has a number above 0, it has a place
 at-inside : (ns : List ℕ) (i : ℕ) → 0 < getD ns i 0 → i < length ns
@@ -116,7 +104,7 @@ fair ws f =
             runs = λ m d′ p n words start out k j e i er ev.
                 carries (sheetOf (marked m (lifts ws))) (back ws f m d′) words start out e i
                 (rw (inUse-marked m New (lifts ws)) (at-inside (inUse New (lifts ws)) i (rw er (omega (arith, q .1))))) (rw (inUse-marked m New (lifts ws)) er) p n ev;
-            keeps = fair-keeps f (q .1) high some;
+            best = fair-best f (q .1) high some;
           };
       fits = marked-fits ws f;
       whole = whole ws f;

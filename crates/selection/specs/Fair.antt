@@ -4,12 +4,12 @@ use mathlib.Core.Path.{_≡_}
 use mathlib.Core.List.{List, [], _∷_, map, List·Memᴰ}
 use lib.ListN.{length, getD}
 use lib.Seq.{slice}
-use Rattle.laws.specs.Fraction.{Fraction, _//_, _⊗_, _≈_, _≲_}
+use Rattle.laws.specs.Fraction.{Fraction, _//_, _≈_}
 use Rattle.laws.specs.Plan.{Path, paths, weight}
-use Rattle.round.specs.Round.{U, weights}
+use Rattle.round.specs.Round.{U, D, weights}
 use Rattle.round.specs.Choice.{Selection, outcome}
 use Rattle.round.specs.Share.{chooses}
-use Rattle.round.specs.Keep.{Coupling, tickets, keptTickets}
+use Rattle.round.specs.Keep.{Best}
 use Rattle.sheet.specs.Sheet.{Lift, lifts, sheetOf}
 use Rattle.sheet.specs.Rounds.{inUse, sumOf, donors, ofRound}
 use Rattle.sheet.specs.Refusal.{fits, verdict}
@@ -44,10 +44,9 @@ pub record FairRound (ls : List Lift) (r : ℕ) : Type 0 where
       → slice (2 * i) (2 * i + 2) (output (sheetOf (marked m ls)) ws start out)
       ≡ pair r (liftAt r (marked m ls) (p .result .place) .number) (outcome (heldIn r (marked m ls)) (p .result))
   -- "In a round with one donor and U = T, every rule keeps at most as many tickets as all its tickets times what the ways weigh whose
-  -- lift is held in their own marking."
-  pub keeps : (t : ℕ) → donors r ls ≡ t ∷ [] → U 1 (liftsOf r ls) ≡ sumOf Old t ls → (times : ℕ) (grid : ℕ → ℕ → ℕ)
-      → Coupling (weights (donorsOf r ls) (liftsOf r ls)) times grid
-      → keptTickets (length (ofRound r ls)) grid // 1 ≲ tickets (length (ofRound r ls)) grid // 1 ⊗ kept ls r
+  -- lift is held in their own marking." And some rule keeps as many: the program's choice is the best there is.
+  pub best : (t : ℕ) → donors r ls ≡ t ∷ [] → U 1 (liftsOf r ls) ≡ sumOf Old t ls
+      → Best (weights (donorsOf r ls) (liftsOf r ls)) (D (donorsOf r ls) (liftsOf r ls) * sumOf New r ls) (kept ls r)
 
 pub record Fair (ls : List Lift) : Type 0 where
   pub rounds : (r : ℕ) → List·Memᴰ r (inUse New ls) → FairRound ls r

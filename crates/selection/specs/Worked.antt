@@ -5,6 +5,7 @@ use mathlib.Core.Bool.{Bool, true, false, not, _&&_}
 use mathlib.Core.List.{List, [], _∷_}
 use lib.Dec.{eqb, ltb}
 use lib.ListN.{length}
+use Rattle.round.specs.Worked.{same}
 use Rattle.sheet.specs.Sheet.{Lift, sheetOf}
 use Rattle.sheet.specs.Rounds.{sumOf}
 use Rattle.sheet.specs.Worked.{lift, example}
@@ -32,12 +33,6 @@ refused sheet ws start out n place = record { sheet = sheet; words = ws; start =
 
 abbrev pub sameReply : Reply → Reply → Bool
 sameReply r q = eqb (r .number) (q .number) && (eqb (r .second) (q .second) && eqb (r .third) (q .third))
-
-abbrev pub same : List ℕ → List ℕ → Bool
-same [] [] = true
-same [] (y ∷ ys) = false
-same (x ∷ xs) [] = false
-same (x ∷ xs) (y ∷ ys) = eqb x y && same xs ys
 
 -- whether the definitions give the reply and the output
 abbrev pub right : Case → Bool
