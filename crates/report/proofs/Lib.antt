@@ -5,4 +5,5 @@ pub mod Texts
 pub mod Words
 pub mod Pairs
 pub mod Reports
+pub mod Whole
 pub mod Worked

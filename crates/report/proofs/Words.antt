@@ -87,7 +87,7 @@ module _ {size : ℕ} {bytes words : List ℕ} {n i : ℕ} (s : Stored size byte
 
 -- ---- all the words, and the first ones
 
-length-words : (size : ℕ) (bytes : List ℕ) → length (wordsOf size bytes) ≡ length bytes / size
+pub length-words : (size : ℕ) (bytes : List ℕ) → length (wordsOf size bytes) ≡ length bytes / size
 unfolding wordsOf
 length-words size bytes = length-tabulate (length bytes / size) (wordAt size bytes)
 

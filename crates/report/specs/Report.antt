@@ -151,3 +151,7 @@ pub record Decoded (ws words : List ℕ) (n : ℕ) : Type 0 where
 pub record Appended (old : List ℕ) (from : ℕ) (new text : List ℕ) (next : ℕ) : Type 0 where
   pub is : text ≡ take from old ++ (new ++ drop (from + length new) old)
   pub ends : next ≡ from + length new
+
+-- proved: a sheet of bytes divisible by 4, however long, has the text of its words
+abbrev pub WholeTheorem : Type 0
+WholeTheorem = (sheet words : List ℕ) → length sheet % 4 ≡ 0 → report sheet (length sheet) words ≡ textOf (sheetWords sheet) (randomWords words)
