@@ -9,7 +9,7 @@ use Rattle.report.specs.Report.{mostWords, report}
 -- the content of sheet.bin and words.bin was read: the size of the first, and the first bytes of both
 pub record Read (sheet-bin words-bin sheet : List ℕ) (size : ℕ) (words : List ℕ) : Type 0 where
   pub counted : size ≡ length sheet-bin
-  pub sheet-read : take size sheet ≡ take (4 * longest) sheet-bin
+  pub sheet-read : sheet ≡ take (4 * longest) sheet-bin
   pub words-read : words ≡ take (8 * mostWords) words-bin
 
 -- the text of what was read, and so of the whole content of both files, however long, if that was read

@@ -1,5 +1,6 @@
 -- What reading may answer.
-use Prim.Native.Nat.{ℕ, _≤_}
+use Prim.Native.Nat.{ℕ, _≤_, min}
+use mathlib.Core.Path.{_≡_}
 use Rattle.choose.specs.declared.Got.{Got}
 use Rattle.choose.specs.declared.Got.the-variants.{Bytes, Failed}
 
@@ -7,3 +8,8 @@ use Rattle.choose.specs.declared.Got.the-variants.{Bytes, Failed}
 abbrev pub Within : ℕ → Got → Type 0
 Within most (Bytes n) = n ≤ most
 Within most Failed = Unit {0}
+
+-- the size of a file of which so many bytes were kept, all of them or as many as there was room for; or a failure
+abbrev pub Extends : ℕ → ℕ → Got → Type 0
+Extends kept room (Bytes size) = kept ≡ min size room
+Extends kept room Failed = Unit {0}

@@ -1,9 +1,11 @@
 // The program of document 01: it reads sheet.bin and words.bin in the current folder and prints the text of their bytes.
-ghost use Prim.Native.Nat.{_*_, _≤_};
+ghost use Prim.Native.Nat.{_*_, _≤_, min};
+ghost use mathlib.Core.Path.{_≡_};
 ghost use lib.ListN.{length};
 ghost use Rattle.io.specs.Counts.{Counts};
 ghost use Rattle.sheet.specs.Sheet.{longest};
-ghost use Rattle.choose.specs.Reading.{Within};
+ghost use Rattle.report.specs.Report.{mostWords};
+ghost use Rattle.choose.specs.Reading.{Within, Extends};
 ghost use Rattle.choose.specs.Printing.{Printed};
 use libc::STDOUT_FILENO;
 use sheet::Sheet;
@@ -16,10 +18,10 @@ const MOST_COUNTED: usize = usize::MAX - 65536;
 
 fn main() {
     let mut sheet = [0u8; SHEET_BYTES];
-    let size = read_whole(b"sheet.bin", &mut sheet);
+    let extent = read_whole(b"sheet.bin", &mut sheet);
     let mut words = [0u8; report::WORDS_BYTES];
     let count = read_start(b"words.bin", &mut words);
-    print_report(&sheet, size, &words[..count]);
+    print_report(&sheet, extent, &words, count);
 }
 
 // ---- the files
@@ -29,6 +31,15 @@ enum Got {
     Bytes(usize),
     Failed,
 }
+
+// What was read of a file: how many of its bytes were kept, and how many it has in all.
+struct Extent {
+    kept: usize,
+    size: usize,
+}
+
+// The extent of an empty file.
+const EMPTY: Extent = Extent { kept: 0, size: 0 };
 
 // The first bytes of a file, as many as fit, and how many these are; a file that cannot be read counts as empty.
 fn read_start(path: &[u8], bytes: &mut [u8]) -> usize
@@ -47,18 +58,31 @@ fn read_start(path: &[u8], bytes: &mut [u8]) -> usize
 }
 
 // The first bytes of a file, as many as fit, and how many it has in all; a file that cannot be read counts as empty.
-fn read_whole(path: &[u8], bytes: &mut [u8]) -> usize {
+fn read_whole(path: &[u8], bytes: &mut [u8]) -> Extent
+    ensures { λ r. ⌜ r .kept ≡ min (r .size) (length (now (bytes .exit))) ⌝ }
+{
     let file = os::open_read(path);
     if file < 0 {
-        return 0;
+        return EMPTY;
     }
-    let start = fill(file, bytes);
-    let whole = count_on(file, start);
+    let extent = read_all(file, bytes);
     libc::close(file);
-    match whole {
-        Got::Bytes(n) => n,
-        Got::Failed => 0,
-    }
+    extent
+}
+
+// Reads until the file ends, and keeps as many bytes as fit; a file that fails counts as empty.
+fn read_all(file: i32, bytes: &mut [u8]) -> Extent
+    ensures { λ r. ⌜ r .kept ≡ min (r .size) (length (now (bytes .exit))) ⌝ }
+{
+    let start = fill(file, bytes);
+    let Got::Bytes(kept) = start else {
+        return EMPTY;
+    };
+    let whole = count_on(file, kept, bytes.len());
+    let Got::Bytes(size) = whole else {
+        return EMPTY;
+    };
+    Extent { kept, size }
 }
 
 // Reads until the bytes are full or the file ends.
@@ -83,12 +107,15 @@ fn fill(file: i32, bytes: &mut [u8]) -> Got
     Got::Bytes(done)
 }
 
-// Counts on to the end of the file, from what was read before.
-fn count_on(file: i32, before: Got) -> Got {
-    let Got::Bytes(start) = before else {
-        return Got::Failed;
-    };
-    let mut size = start;
+// Counts on to the end of the file, from what was kept of it; where room was left for more, that is all of it.
+fn count_on(file: i32, kept: usize, room: usize) -> Got
+    requires { ⌜ kept ≤ room ⌝ }
+    ensures { λ r. ⌜ Extends kept room r ⌝ }
+{
+    if kept < room {
+        return Got::Bytes(kept);
+    }
+    let mut size = kept;
     while size < MOST_COUNTED {
         let got = read_piece(file);
         match got {
@@ -127,13 +154,20 @@ fn read_some(file: i32, bytes: &mut [u8]) -> Got
 
 // ---- the text
 
-// Prints the text of a sheet's bytes, its true size and the bytes of the words; a sheet that is not too long was kept whole.
-fn print_report(sheet: &[u8], size: usize, words: &[u8])
-    requires { ⌜ (size ≤ 4 * longest → size ≤ length (now sheet)) ⌝ }
+// Prints the text of what was read into both buffers, each of which has room for all bytes that decide it.
+fn print_report(sheet: &[u8], extent: Extent, words: &[u8], count: usize)
+    requires { ⌜ length (now sheet) ≡ 4 * longest ⌝ }
+    requires { ⌜ extent .kept ≡ min (extent .size) (length (now sheet)) ⌝ }
+    requires { ⌜ length (now words) ≡ 8 * mostWords ⌝ }
+    requires { ⌜ count ≤ length (now words) ⌝ }
 {
+    let kept = extent.kept;
+    let size = extent.size;
+    let first = &sheet[..kept];
+    let read = &words[..count];
     let mut text = [0u8; report::ROOM];
-    let n = report::report(sheet, size, words, &mut text);
-    print(&text[..n], sheet, size, words);
+    let n = report::report(first, size, read, &mut text);
+    print(&text[..n], first, size, read);
 }
 
 // Prints a text that must be that of what was read, and of the whole files.

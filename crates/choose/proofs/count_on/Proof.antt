@@ -1,5 +1,5 @@
--- `choose::count_on` is safe and ends. The loop's invariant: the size fits, since a piece is added only where there is room for the
--- longest. The measure is how far the size is from 2^64. Assumes nothing.
+-- `choose::count_on` meets its contract. The loop's invariant: the size is at least what was kept, which filled the room, and it
+-- fits, since a piece is added only where there is room for the longest. The measure is how far the size is from 2^64. Assumes nothing.
 use mathlib.Core.Path.{subst}
 use Rattle.choose.specs.Reading.{Within}
 use Prim.Native.Nat.{_<_, _≤_, _-_, _^_}
@@ -9,16 +9,10 @@ use Rattle.choose.proofs.count_on.Statement.{statement}
 use Rattle.choose.proofs.count_on.Tie as tie
 
 abbrev Inv-loop : tie.InvT-loop
-Inv-loop file start size₀ size = size < 2 ^ 64
+Inv-loop file kept room size₀ size = (kept ≤ size) × (size < 2 ^ 64)
 
 abbrev μ-loop : tie.MeasureT-loop
-μ-loop file start size₀ size = 2 ^ 64 - size
-
-enum-known-before : tie.Need-enum-known-before Inv-loop μ-loop
-enum-known-before c = search needs
-
-enum-told : tie.Need-enum-told Inv-loop μ-loop
-enum-told c = search needs
+μ-loop file kept room size₀ size = 2 ^ 64 - size
 
 returns : tie.Need-returns Inv-loop μ-loop
 returns c = search needs
@@ -36,7 +30,7 @@ returns-2 : tie.Need-returns-2 Inv-loop μ-loop
 returns-2 c = search needs
 
 -- a piece has at most 65,536 bytes
-piece-fits : (c : tie.Else1 Inv-loop μ-loop) → c .before .before .got .given .0 .0 ≤ 65536
+piece-fits : (c : tie.Else2 Inv-loop μ-loop) → c .before .before .got .given .0 .0 ≤ 65536
 piece-fits c = subst (Within 65536) (c .before .before .got .given .1) (c .before .before .before .before .read-piece .ensures)
 
 add-size : tie.Need-add-size Inv-loop μ-loop
@@ -48,8 +42,8 @@ loop-less c = search needs
 loop-again : tie.Need-loop-again Inv-loop μ-loop
 loop-again c = omega (arith, piece-fits c)
 
-enum-told-2 : tie.Need-enum-told-2 Inv-loop μ-loop
-enum-told-2 c = search needs
+enum-told : tie.Need-enum-told Inv-loop μ-loop
+enum-told c = search needs
 
 returns-3 : tie.Need-returns-3 Inv-loop μ-loop
 returns-3 c = search needs
@@ -63,8 +57,6 @@ count-on-spec =
     (tie.spec
     Inv-loop
     μ-loop
-    enum-known-before
-    enum-told
     returns
     loop-holds
     read-piece-requires
@@ -73,6 +65,6 @@ count-on-spec =
     add-size
     loop-less
     loop-again
-    enum-told-2
+    enum-told
     returns-3
     returns-4)

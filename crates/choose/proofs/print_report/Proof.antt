@@ -1,10 +1,17 @@
--- `choose::print_report` is safe and hands `print` the text of its arguments: what `report` ensures. Assumes nothing.
+-- `choose::print_report` is safe and hands `print` the text of the bytes that it lends: what `report` ensures. Assumes nothing.
 use mathlib.Core.Path.{sym}
+use native.Mathlib.Omega.{arith}
 use lib.Seq.{length-take-le}
 use borrow.Author.Needs.{needs}
 use Rattle.choose.proofs.Prints.{printed}
 use Rattle.choose.proofs.print_report.Statement.{statement}
 use Rattle.choose.proofs.print_report.Tie as tie
+
+slice-aggregate-first : tie.Need-slice-aggregate-first
+slice-aggregate-first c = sym (length-take-le _ _ (omega arith))
+
+slice-aggregate-read : tie.Need-slice-aggregate-read
+slice-aggregate-read c = sym (length-take-le _ _ (search needs))
 
 report-requires : tie.Need-report-requires
 report-requires c κs = search needs
@@ -25,6 +32,8 @@ pub print-report-spec : {M : Type 1} → statement M
 print-report-spec =
     tie.close
     (tie.spec
+    slice-aggregate-first
+    slice-aggregate-read
     report-requires
     array-share-prefix-text
     slice-aggregate-print
