@@ -16,6 +16,9 @@ const SHEET_BYTES: usize = 4 * Sheet::LONGEST;
 // Where counting stops, since a piece more might not fit; no file is as long.
 const MOST_COUNTED: usize = usize::MAX - 65536;
 
+// How often a read is tried that signals interrupt.
+const MOST_TRIES: usize = 1000;
+
 fn main() {
     let mut sheet = [0u8; SHEET_BYTES];
     let extent = read_whole(b"sheet.bin", &mut sheet);
@@ -141,15 +144,22 @@ fn read_piece(file: i32) -> Got
     read_some(file, &mut piece)
 }
 
-// Reads once.
+// Reads once; a read that a signal interrupts is tried again.
 fn read_some(file: i32, bytes: &mut [u8]) -> Got
     ensures { λ r. ⌜ Within (length (now (bytes .entry))) r ⌝ }
 {
-    let got = libc::read(file, bytes);
-    if got < 0 {
-        return Got::Failed;
+    let mut tries = 0;
+    while tries < MOST_TRIES {
+        let got = libc::read(file, bytes);
+        if 0 <= got {
+            return Got::Bytes(io::count(got, bytes));
+        }
+        if os::errno() != libc::EINTR {
+            return Got::Failed;
+        }
+        tries += 1;
     }
-    Got::Bytes(io::count(got, bytes))
+    Got::Failed
 }
 
 // ---- the text
