@@ -1,4 +1,4 @@
--- The document's cases and the exact shares of a small sheet, computed.
+-- The document's cases, and the exact shares and keeping of small sheets, computed.
 use mathlib.Core.Path.{_≡_, refl}
 use mathlib.Core.Bool.{true}
 use Rattle.laws.specs.Sum.{over, total, totalBy}
@@ -14,8 +14,8 @@ use Rattle.sheet.specs.Rounds.{those, sends, ofRound}
 use Rattle.sheet.specs.Refusal.{firstRound, ofRounds, verdict}
 use Rattle.selection.specs.Choice.{donorsOf, liftsOf, heldAt, heldIn, planOf, liftAt, panelFrom, reply, written, output}
 use Rattle.selection.specs.Initial.{eligible, each, selectionsFrom, names, marked, product, odds, sumOver, overSelections}
-use Rattle.selection.specs.Fair.{share}
-use Rattle.selection.specs.Worked.{cases, allRight, rightShares}
+use Rattle.selection.specs.Fair.{share, kept}
+use Rattle.selection.specs.Worked.{cases, allRight, rightShares, rightKeeping}
 
 pub all-right : allRight cases ≡ true
 unfolding total totalBy pick after drawFrom run S U D oldWeight newWeight weights G fresh firstOdds preliminary stayOr replacement keyfitz select plan outcome lifts writtenLifts fault readFrom those sends ofRound firstRound ofRounds verdict donorsOf liftsOf heldAt heldIn planOf liftAt panelFrom reply written output
@@ -24,3 +24,7 @@ all-right = refl
 pub exact-shares : rightShares ≡ true
 unfolding over total totalBy pick after paths weight S U D oldWeight newWeight weights G fresh firstOdds preliminary stayOr replacement keyfitz select plan those sends ofRound donorsOf liftsOf heldAt heldIn planOf liftAt eligible each selectionsFrom names marked product odds sumOver overSelections share
 exact-shares = refl
+
+pub exact-keeping : rightKeeping ≡ true
+unfolding over total totalBy pick after paths weight S U D oldWeight newWeight weights G fresh firstOdds preliminary stayOr replacement keyfitz select plan those sends ofRound donorsOf liftsOf heldAt heldIn planOf liftAt eligible each selectionsFrom names marked product odds sumOver overSelections kept
+exact-keeping = refl

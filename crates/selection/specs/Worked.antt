@@ -1,5 +1,6 @@
 -- Small sheets with what is replied and written, as one table to be computed: the document's small rounds worked through, M1 to M11, and
--- the refusals because of what was lent, all with their numbers and words as literals; and the exact shares of a small sheet.
+-- the refusals because of what was lent, all with their numbers and words as literals; and the exact shares and keeping of small
+-- sheets.
 use Prim.Native.Nat.{ℕ, _*_, _-_, _^_}
 use mathlib.Core.Bool.{Bool, true, false, not, _&&_}
 use mathlib.Core.List.{List, [], _∷_}
@@ -11,7 +12,7 @@ use Rattle.sheet.specs.Rounds.{sumOf}
 use Rattle.sheet.specs.Worked.{lift, example}
 use Rattle.sheet.specs.declared.Side.the-variants.{New}
 use Rattle.selection.specs.Choice.{liftAt, Reply, numbers, reply, output}
-use Rattle.selection.specs.Fair.{share}
+use Rattle.selection.specs.Fair.{share, kept}
 
 -- a sheet, random words, a start and an output, with the reply and the output after the call
 pub record Case : Type 0 where
@@ -114,3 +115,11 @@ rightShare ls r j =
 -- every lift of both new rounds
 abbrev pub rightShares : Bool
 rightShares = rightShare small 1 0 && (rightShare small 1 1 && rightShare small 2 0)
+
+-- old 1, 2, new 2, 1 in one round: old weights 3 and 6, new 6 and 3
+abbrev exchanged : List Lift
+exchanged = lift 1 1 1 1 2 true ∷ lift 2 1 2 1 1 false ∷ []
+
+-- "what the ways weigh whose lift is held in their own marking": 6 of 9
+abbrev pub rightKeeping : Bool
+rightKeeping = eqb (kept exchanged 1 .num * 9) (6 * kept exchanged 1 .den) && ltb 0 (kept exchanged 1 .den)
