@@ -1,13 +1,21 @@
-# make run    chooses for the quarter in example/quarter, by the proved program
-# make test   the whole gate: layout, proofs, must-fail edits, programs, and the comparison with Rust
+# make run        chooses for the quarter in example/quarter, by the proved program
+# make test       the whole gate: layout, proofs, must-fail edits, programs, and the comparison with Rust
+# make examples   writes the files of the examples again, from their generator
+# make bench      times the proved choice beside the reference's
 
-.PHONY: run test program archive
+.PHONY: run test examples bench program archive
 
 run: program
 	@cd example/quarter && ../../target/bin/choose
 
 test:
 	@sh .ci/gate
+
+examples: archive
+	@cd harness && cargo run --quiet --offline --locked --bin example
+
+bench: archive
+	@cd harness && cargo run --quiet --offline --locked --release --bin bench
 
 program:
 	@mkdir -p target
@@ -16,4 +24,5 @@ program:
 
 archive:
 	@mkdir -p target
+	@echo 'proving and building the archive: some minutes the first time, then at once' >&2
 	@rt staticlib exports >target/archive.log 2>&1 || { cat target/archive.log; exit 1; }

@@ -48,8 +48,8 @@ extern "C" {
         start: usize,
         out: *mut u32,
         out_len: usize,
-        place: *mut usize,
-        read: *mut usize,
+        second: *mut usize,
+        third: *mut usize,
     ) -> u32;
 }
 
@@ -147,8 +147,8 @@ pub fn check_sheet(sheet: &[u32]) -> Verdict {
 /// Chooses for all new rounds with words read from `start` on, and writes a pair for each.
 pub fn choose_panel(sheet: &[u32], words: &[u64], start: usize, out: &mut [u32]) -> Reply {
     let unwritten = usize::MAX - 7;
-    let (mut place, mut read) = (unwritten, unwritten);
-    // SAFETY: all slices and both places live through the call, and each length is its slice's.
+    let (mut second, mut third) = (unwritten, unwritten);
+    // SAFETY: all slices and both numbers live through the call, and each length is its slice's.
     let number = unsafe {
         jengpilo_panel_choose(
             sheet.as_ptr(),
@@ -158,15 +158,16 @@ pub fn choose_panel(sheet: &[u32], words: &[u64], start: usize, out: &mut [u32])
             start,
             out.as_mut_ptr(),
             out.len(),
-            &mut place,
-            &mut read,
+            &mut second,
+            &mut third,
         )
     };
     if number == 0 {
-        let (choices, words) = (place, read);
+        let (choices, words) = (second, third);
         return Reply::Chosen { choices, words };
     }
-    assert_eq!(read, 0, "a refusal counted words");
+    assert_eq!(third, 0, "a refusal counted words");
+    let place = second;
     Reply::Refused { number, place }
 }
 

@@ -1,4 +1,4 @@
-//! Times the archive's choice for a whole sheet beside the reference's: cargo run --release --bin bench
+//! Times the archive's choice for a whole sheet beside the reference's: make bench
 
 use harness::reference::{write_sheet, Reply};
 use harness::seeded::Seeded;

@@ -1,4 +1,4 @@
-//! Writes the examples' files: cargo run --bin example
+//! Writes the examples' files: make examples
 
 use harness::examples::{examples, SHEET_FILE, WORDS_FILE};
 use std::path::Path;
