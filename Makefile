@@ -1,15 +1,19 @@
 # make run        chooses for the quarter in example/quarter, by the proved program
 # make test       the whole gate: layout, proofs, must-fail edits, programs, and the comparison with Rust
+# make edit       tries one must-fail edit: make edit EDIT=round/both_straight_odds
 # make examples   writes the files of the examples again, from their generator
 # make bench      times the proved choice beside the reference's
 
-.PHONY: run test examples bench program archive
+.PHONY: run test edit examples bench program archive
 
 run: program
 	@cd example/quarter && ../../target/bin/choose
 
 test:
 	@sh .ci/gate
+
+edit:
+	@sh .ci/edit $(EDIT)
 
 examples: archive
 	@cd harness && cargo run --quiet --offline --locked --bin example
