@@ -173,16 +173,14 @@ fn print_report(sheet: &[u8], extent: Extent, words: &[u8], count: usize)
 {
     let kept = extent.kept;
     let size = extent.size;
-    let first = &sheet[..kept];
-    let read = &words[..count];
     let mut text = [0u8; report::ROOM];
-    let n = report::report(first, size, read, &mut text);
-    print(&text[..n], first, size, read);
+    let n = report::report(&sheet[..kept], size, &words[..count], &mut text);
+    print(&text[..n], sheet, extent, words, count);
 }
 
-// Prints a text that must be that of what was read, and of the whole files.
-fn print(text: &[u8], sheet: &[u8], size: usize, words: &[u8])
-    requires { ⌜ Printed (now text) (now sheet) size (now words) ⌝ }
+// Prints a text that must be that of what was read into both buffers, and of the whole files.
+fn print(text: &[u8], sheet: &[u8], extent: Extent, words: &[u8], count: usize)
+    requires { ⌜ Printed (now text) (now sheet) extent (now words) count ⌝ }
 {
     if !io::write_all(STDOUT_FILENO, text) {
         os::fail(b"standard output");
