@@ -14,9 +14,13 @@ fn top() -> &'static Path {
 /// The pages: those at the top and those in docs.
 fn pages() -> Vec<PathBuf> {
     let folders = [top().to_path_buf(), top().join("docs")];
-    let entries = folders.iter().flat_map(|folder| fs::read_dir(folder).expect("the folder is there"));
+    let entries = folders
+        .iter()
+        .flat_map(|folder| fs::read_dir(folder).expect("the folder is there"));
     let paths = entries.map(|entry| entry.expect("the folder can be read").path());
-    paths.filter(|path| path.extension().is_some_and(|end| end == "md")).collect()
+    paths
+        .filter(|path| path.extension().is_some_and(|end| end == "md"))
+        .collect()
 }
 
 /// The links of a text within the repository: what each shows, and where it leads.
@@ -60,7 +64,10 @@ fn check(folder: &Path, page: &str, shown: &str, target: &str) {
             let mut words = line.split(|c: char| !c.is_alphanumeric() && c != '_');
             assert!(words.any(|word| word == name), "{target}: {line}");
         }
-        None => assert!(anchors(&text).iter().any(|anchor| anchor == place), "{target}"),
+        None => assert!(
+            anchors(&text).iter().any(|anchor| anchor == place),
+            "{target}"
+        ),
     }
 }
 

@@ -18,15 +18,15 @@ pub record Case : Type 0 where
 abbrev case : ℕ → List ℕ → ℕ → Drawn → Case
 case b ws i d = record { bound = b; words = ws; from = i; drawn = d }
 
-abbrev pub same : Drawn → Drawn → Bool
-same (Value v n) (Value w m) = eqb v w && eqb n m
-same (Value v n) Short = false
-same Short (Value w m) = false
-same Short Short = true
+abbrev pub sameDrawn : Drawn → Drawn → Bool
+sameDrawn (Value v n) (Value w m) = eqb v w && eqb n m
+sameDrawn (Value v n) Short = false
+sameDrawn Short (Value w m) = false
+sameDrawn Short Short = true
 
 abbrev pub allRight : List Case → Bool
 allRight [] = true
-allRight (c ∷ cs) = same (drawAt largest (c .words) (c .from) (c .bound)) (c .drawn) && allRight cs
+allRight (c ∷ cs) = sameDrawn (drawAt largest (c .words) (c .from) (c .bound)) (c .drawn) && allRight cs
 
 abbrev pub cases : List Case
 cases =

@@ -35,9 +35,9 @@ answered-refused e h k = rw (← e) (record { told = h; place-written = k; round
 pub answered-fits : {v : Verdict} {l k r : ℕ} → fits l k ≡ v → Answered v 0 l r k
 answered-fits e = rw (← e) (record { told = refl; place-written = refl; rounds-written = refl })
 
--- the three numbers of a reply
-pub three : {r q : Reply} {n a b : ℕ} → n ≡ r .number → a ≡ r .second → b ≡ r .third → r ≡ q → numbers n a b ≡ q
-three n a b e = rw (n, a, b) e
+-- a reply by its three numbers
+pub by-numbers : {r q : Reply} {n a b : ℕ} → n ≡ r .number → a ≡ r .second → b ≡ r .third → r ≡ q → numbers n a b ≡ q
+by-numbers n a b e = rw (n, a, b) e
 
 -- what is asked of a round, and its answer, by the enums that the numbers stand for
 pub by-enums : {ds ds′ : Donors} {h h′ : Held} {ls : List Lift} → ds ≡ ds′ → h ≡ h′ → Callable ds′ ls h′ → Callable ds ls h

@@ -60,7 +60,8 @@ cases =
     -- "A sheet of bytes not divisible by 4, however long, is refusal 1 with its byte length as place.": 45 bytes, and 49,561
     ∷ case (exampleFile ++ (0 ∷ [])) [] (refused (49 ∷ 32 ∷ 52 ∷ 53 ∷ []))
     ∷ long 49561 (refused (49 ∷ 32 ∷ 52 ∷ 57 ∷ 53 ∷ 54 ∷ 49 ∷ []))
-    -- "Length 0 or above 12,389 words. Place: the length.": 49,560 bytes are 12,390 words
+    -- "Length 0 or above 12,389 words. Place: the length.": 49,556 bytes, of which none was kept, are not too many; 49,560 are 12,390 words
+    ∷ long 49556 (refused (49 ∷ 32 ∷ 48 ∷ []))
     ∷ long 49560 (refused (49 ∷ 32 ∷ 49 ∷ 50 ∷ 51 ∷ 57 ∷ 48 ∷ []))
     -- "A sheet of one end word with 0 lifts is accepted and has no choices."
     ∷ case (file 4 (0xF0000000 ∷ [])) [] (words (48 ∷ []))

@@ -6,7 +6,7 @@ use mathlib.Core.List.{List, [], _∷_, map}
 use lib.Dec.{ltb, eqb}
 use lib.ListN.{getD}
 use Rattle.draw.specs.Draw.{largest, drawAt}
-use Rattle.draw.specs.Worked.{same as sameDrawn}
+use Rattle.draw.specs.Worked.{sameDrawn}
 use Rattle.draw.specs.declared.Drawn.{Drawn}
 use Rattle.draw.specs.declared.Drawn.the-variants.{Value, Short as Ended}
 use Rattle.round.specs.Round.{liftAt, S, D, weights, G}

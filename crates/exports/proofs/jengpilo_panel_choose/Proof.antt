@@ -1,6 +1,6 @@
 -- `exports::jengpilo_panel_choose` meets its contract: the three numbers are what the answer replies. Assumes nothing.
 use borrow.Author.Needs.{needs}
-use Rattle.exports.proofs.Replies.{three}
+use Rattle.exports.proofs.Replies.{by-numbers}
 use Rattle.exports.proofs.jengpilo_panel_choose.Statement.{statement}
 use Rattle.exports.proofs.jengpilo_panel_choose.Tie as tie
 
@@ -22,7 +22,7 @@ same-length c = search needs
 returns : tie.Need-returns
 returns c =
     let e = c .before .before .before .before .before .choose .ensures in
-    (three (c .number .ensures) (c .before .before .second .ensures) (c .before .third .ensures) (e .0), e .1 .0)
+    (by-numbers (c .number .ensures) (c .before .before .second .ensures) (c .before .third .ensures) (e .0), e .1 .0)
 
 pub jengpilo-panel-choose-spec : {M : Type 1} → statement M
 jengpilo-panel-choose-spec =
