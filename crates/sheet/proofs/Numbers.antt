@@ -6,7 +6,7 @@ use native.Mathlib.Omega.{arith}
 use lib.Dec.{eqb}
 use lib.ListN.{length}
 use Rattle.sheet.specs.Sheet.{endKind, lifts}
-use Rattle.sheet.specs.Reading.{mislong, next, fault, numbered, Reading, faulty, sound, unless, readFrom, reading, start}
+use Rattle.sheet.specs.Reading.{mislong, next, fault, numbered, Reading, faulty, sound, unless, readFrom, reading, ofWords, start}
 use Rattle.sheet.specs.Refusal.{Verdict, refused, fits, firstRound, ofRounds, firstWord, verdict}
 use Rattle.sheet.specs.declared.Before.{Before}
 
@@ -44,13 +44,12 @@ above-word : (r : Reading) (v : Verdict) → AboveWord r → Above v → Above (
 above-word (faulty x) v h k = h
 above-word sound v h k = k
 
-above-length : (t : Bool) (n : ℕ) (v : Verdict) → Above v → Above (cond t (refused (numbered 1 n)) v)
-above-length true n v h = omega arith
-above-length false n v h = h
+above-words : (t : Bool) (n : ℕ) (r : Reading) → AboveWord r → AboveWord (cond t (faulty (numbered 1 n)) r)
+above-words true n r h = omega arith
+above-words false n r h = h
 
 pub above : (ws : List ℕ) → Above (verdict ws)
 unfolding verdict ofRounds
 above ws =
-    above-length (mislong ws) (length ws) _
-    (above-word (reading ws) _ (above-from start 0 ws)
-    (above-round 6 _ _ (above-round 7 _ _ (above-round 7 _ _ (above-round 8 _ _ (above-round 9 _ _ tt))))))
+    above-word (ofWords ws) _ (above-words (mislong ws) (length ws) (reading ws) (above-from start 0 ws))
+    (above-round 6 _ _ (above-round 7 _ _ (above-round 7 _ _ (above-round 8 _ _ (above-round 9 _ _ tt)))))

@@ -9,7 +9,7 @@ use lib.Dec.{eqb, leb, ltb}
 use lib.ListN.{length, getD}
 use borrow.Author.Tests.{eq-eqb, ne-eqb, lt-ltb, le-ltb, ltb-false}
 use Rattle.sheet.specs.Sheet.{mostRounds, longest, Lift, lifts}
-use Rattle.sheet.specs.Reading.{mislong, Numbered, numbered, Reading, faulty, sound, reading, Legible}
+use Rattle.sheet.specs.Reading.{mislong, Numbered, numbered, Reading, faulty, sound, reading, ofWords, Legible}
 use Rattle.sheet.specs.Rounds.{rounds, inUse}
 use Rattle.sheet.specs.Refusal.{Verdict, refused, fits, unheld, oversize, unmeasured, crowded, firstRound, ofRounds, firstWord, verdict}
 use Rattle.sheet.specs.Tables.{table, tallyOf, donorsOf, breaks, first}
@@ -98,21 +98,20 @@ module _ (ls : List Lift) where
           at-last e = unmet 10 _ _ e ∙ unmet 9 _ _ d ∙ unmet 8 _ _ c ∙ unmet 8 _ _ b ∙ unmet 7 _ _ a
 
 module _ (ws : List ℕ) where
-  pub at-length : (length ws ≡ 0) ⊎ (longest < length ws) → refused (numbered 1 (length ws)) ≡ verdict ws
-  unfolding verdict
+  pub at-length : (length ws ≡ 0) ⊎ (longest < length ws) → faulty (numbered 1 (length ws)) ≡ ofWords ws
   at-length (inl h) = rw (eq-eqb (length ws) 0 h)
   at-length (inr h) = rw (lt-ltb longest (length ws) h, or-true (eqb (length ws) 0))
 
-  module _ (some : length ws ≡ 0 → ⊥) (few : length ws ≤ longest) where
-    words-first : firstWord (reading ws) (ofRounds (lifts ws)) ≡ verdict ws
-    unfolding verdict
-    words-first = rw (ne-eqb (length ws) 0 some, le-ltb longest (length ws) few)
+  pub at-reading : {r : Reading} → (length ws ≡ 0 → ⊥) → length ws ≤ longest → r ≡ reading ws → r ≡ ofWords ws
+  at-reading some few e = rw (ne-eqb (length ws) 0 some, le-ltb longest (length ws) few) e
 
-    pub at-word : {x : Numbered} → faulty x ≡ reading ws → refused x ≡ verdict ws
-    at-word e = ap (λ r. firstWord r (ofRounds (lifts ws))) e ∙ words-first
+  pub at-word : {x : Numbered} → faulty x ≡ ofWords ws → refused x ≡ verdict ws
+  unfolding verdict
+  at-word e = ap (λ r. firstWord r (ofRounds (lifts ws))) e
 
-    pub at-rounds : {v : Verdict} → sound ≡ reading ws → v ≡ ofRounds (lifts ws) → v ≡ verdict ws
-    at-rounds e q = q ∙ ap (λ r. firstWord r (ofRounds (lifts ws))) e ∙ words-first
+  pub at-rounds : {v : Verdict} → sound ≡ ofWords ws → v ≡ ofRounds (lifts ws) → v ≡ verdict ws
+  unfolding verdict
+  at-rounds e q = q ∙ ap (λ r. firstWord r (ofRounds (lifts ws))) e
 
 -- ---- fitting
 
@@ -126,9 +125,13 @@ read-through : (r : Reading) (v : Verdict) {a b : ℕ} → firstWord r v ≡ fit
 read-through sound v e = (refl, e)
 read-through (faulty x) v e = (cc, cc)
 
-well-long : (t : Bool) (x : Numbered) (v : Verdict) {a b : ℕ} → cond t (refused x) v ≡ fits a b → (t ≡ false) × (v ≡ fits a b)
-well-long true x v e = (cc, cc)
-well-long false x v e = (refl, e)
+-- words that are sound are not too many
+well-long : (t : Bool) (x : Numbered) (r : Reading) → cond t (faulty x) r ≡ sound → (t ≡ false) × (r ≡ sound)
+well-long true x r e = (cc, cc)
+well-long false x r e = (refl, e)
+
+sound-words : (ws : List ℕ) → ofWords ws ≡ sound → (mislong ws ≡ false) × (reading ws ≡ sound)
+sound-words ws e = well-long (mislong ws) _ (reading ws) e
 
 pub decided : DecidedTheorem
 unfolding verdict ofRounds firstRound
@@ -138,8 +141,8 @@ decided ws =
           rw (f .length, f .words)
           (rw (clear (unheld ls) (f .held), clear (oversize Old ls) (f .old), clear (oversize New ls) (f .new), clear (unmeasured ls) (f .measured), clear (crowded ls) (f .donors)));
       only = λ n k e.
-          let l = well-long (mislong ws) _ (firstWord (reading ws) (ofRounds ls)) e in
-          let w = read-through (reading ws) (ofRounds ls) (l .1) in
+          let w = read-through (ofWords ws) (ofRounds ls) e in
+          let l = sound-words ws (w .0) in
           let a = passed 7 (rounds (unheld ls)) _ (w .1) in
           let b = passed 8 (rounds (oversize Old ls)) _ (a .1) in
           let c = passed 8 (rounds (oversize New ls)) _ (b .1) in
@@ -147,7 +150,7 @@ decided ws =
           let g = passed 10 (rounds (crowded ls)) _ (d .1) in
           let fitting : Fitting ws = record {
             length = l .0;
-            words = w .0;
+            words = l .1;
             held = none (unheld ls) (a .0);
             old = none (oversize Old ls) (b .0);
             new = none (oversize New ls) (c .0);
@@ -167,10 +170,17 @@ decided ws =
     none : (p : ℕ → Bool) → rounds p ≡ [] → (r : ℕ) → 1 ≤ r → r ≤ mostRounds → p r ≡ false
     none p e r l m = none-those p 1 mostRounds e r l (omega arith)
 
--- a fitting sheet is legible
-pub legible : {ws : List ℕ} → Fitting ws → Legible ws
-legible {ws} f = record { short = go (eqb (length ws) 0) (f .length); read = f .words }
+-- words without a refusal are legible
+short-words : (ws : List ℕ) → mislong ws ≡ false → length ws ≤ longest
+short-words ws e = go (eqb (length ws) 0) e
   where
     go : (t : Bool) → t || ltb longest (length ws) ≡ false → length ws ≤ longest
     go true e = absurd (true≢false e)
     go false e = ltb-false longest (length ws) e
+
+pub legible-words : {ws : List ℕ} → ofWords ws ≡ sound → Legible ws
+legible-words {ws} e = let l = sound-words ws e in record { short = short-words ws (l .0); read = l .1 }
+
+-- a fitting sheet is legible
+pub legible : {ws : List ℕ} → Fitting ws → Legible ws
+legible {ws} f = record { short = short-words ws (f .length); read = f .words }

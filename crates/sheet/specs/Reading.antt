@@ -93,6 +93,10 @@ readFrom s i (w ∷ ws) = unless (fault s w) i (readFrom (next s w) (i + 1) ws)
 abbrev pub reading : List ℕ → Reading
 reading ws = readFrom start 0 ws
 
+-- refusals 1 to 6: "Order: 1; then the words one by one, the first faulty word deciding"; of 1, "Place: the length."
+abbrev pub ofWords : List ℕ → Reading
+ofWords ws = cond (mislong ws) (faulty (numbered 1 (length ws))) (reading ws)
+
 -- none of the refusals 1 to 6 applies: the words are not too many, and none is faulty (so there is one)
 pub record Legible (ws : List ℕ) : Type 0 where
   pub short : length ws ≤ longest

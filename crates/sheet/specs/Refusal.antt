@@ -5,7 +5,7 @@ use mathlib.Core.List.{List, [], _∷_}
 use lib.ListN.{length}
 use lib.Dec.{eqb, leb, ltb}
 use Rattle.sheet.specs.Sheet.{largestSum, Lift, lifts}
-use Rattle.sheet.specs.Reading.{mislong, Numbered, numbered, Reading, faulty, sound, reading}
+use Rattle.sheet.specs.Reading.{Numbered, numbered, Reading, faulty, sound, ofWords}
 use Rattle.sheet.specs.Rounds.{rounds, named, inUse, sumOf, heldIn, donors}
 use Rattle.sheet.specs.declared.Side.{Side}
 use Rattle.sheet.specs.declared.Side.the-variants.{Old, New}
@@ -61,9 +61,9 @@ abbrev pub firstWord : Reading → Verdict → Verdict
 firstWord (faulty x) v = refused x
 firstWord sound v = v
 
--- "Order: 1; then the words one by one, the first faulty word deciding"; of 1, "Place: the length."
+-- the words, "then" the rounds
 unfoldable pub verdict : List ℕ → Verdict
-verdict ws = cond (mislong ws) (refused (numbered 1 (length ws))) (firstWord (reading ws) (ofRounds (lifts ws)))
+verdict ws = firstWord (ofWords ws) (ofRounds (lifts ws))
 
 -- ---- the code's answer
 

@@ -6,7 +6,7 @@ ghost use lib.Dec.{ltb};
 ghost use lib.ListN.{length, getD, drop};
 ghost use Rattle.laws.specs.Sum.{indicator};
 ghost use Rattle.sheet.specs.Sheet.{longest, kind as kindOf, payload as payloadOf, placeOf, liftOf, lifts, word as wordOf};
-ghost use Rattle.sheet.specs.Reading.{next as nextOf, follows as followsOf, misnumbered as misnumberedOf, misplaced as misplacedOf, miscounted as miscountedOf, mismarked as mismarkedOf, fault, unless, sound, reading, Legible};
+ghost use Rattle.sheet.specs.Reading.{next as nextOf, follows as followsOf, misnumbered as misnumberedOf, misplaced as misplacedOf, miscounted as miscountedOf, mismarked as mismarkedOf, fault, unless, sound, reading, ofWords, Legible};
 ghost use Rattle.sheet.specs.Rounds.{rounds, placeAt, inUse};
 ghost use Rattle.sheet.specs.Refusal.{unheld, oversize, unmeasured, crowded, ofRounds, verdict, refusal, told, toldOfWords};
 ghost use Rattle.sheet.specs.Tables.{fieldOf, tallyOf, donorsOf, bitOf, startsOf, ByRound, breaks as breaksOf, first as firstOf};
@@ -150,7 +150,7 @@ pub enum Checked {
 }
 
 // The answer to words alone.
-enum Judged {
+pub enum Judged {
     Faulty(Refusal),
     Sound,
 }
@@ -300,8 +300,8 @@ fn next(s: Before, word: u32) -> Before
     }
 }
 
-// The refusal that the words meet.
-fn read(sheet: &[u32]) -> Judged
+// The first faulty word of words that are not too many.
+fn read_words(sheet: &[u32]) -> Judged
     requires { ⌜ length (now sheet) ≤ longest ⌝ }
     ensures { λ r. ⌜ toldOfWords r ≡ reading (now (sheet .entry)) ⌝ }
 {
@@ -328,6 +328,17 @@ fn read(sheet: &[u32]) -> Judged
         return Judged::Sound;
     }
     Judged::Faulty(Refusal::Sequence(i))
+}
+
+// The answer to words alone, their length included: one of the refusals 1 to 6, or sound.
+pub fn read(sheet: &[u32]) -> Judged
+    ensures { λ r. ⌜ toldOfWords r ≡ ofWords (now (sheet .entry)) ⌝ }
+{
+    let n = sheet.len();
+    if n == 0 || Sheet::LONGEST < n {
+        return Judged::Faulty(Refusal::Length(n));
+    }
+    read_words(sheet)
 }
 
 // ---- the lifts of a legible sheet
@@ -584,10 +595,6 @@ fn check_rounds(sheet: &[u32]) -> Checked
 pub fn check(sheet: &[u32]) -> Checked
     ensures { λ r. ⌜ told r ≡ verdict (now (sheet .entry)) ⌝ }
 {
-    let n = sheet.len();
-    if n == 0 || Sheet::LONGEST < n {
-        return Checked::Refused(Refusal::Length(n));
-    }
     match read(sheet) {
         Judged::Faulty(x) => Checked::Refused(x),
         Judged::Sound => check_rounds(sheet),

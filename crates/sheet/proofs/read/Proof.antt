@@ -1,74 +1,19 @@
--- `sheet::read` meets its contract: what is left to read from word i on gives the answer, and there are no more lifts than words. Assumes nothing.
-use native.Mathlib.Omega.{arith}
+-- `sheet::read` meets its contract: one law for each way out: the length, the words. Assumes nothing.
+use mathlib.Core.Logic.{⊎-elim, inl, inr}
+use borrow.Author.Tests.{ltb-true, ltb-false}
+use Rattle.sheet.proofs.Verdicts.{at-length, at-reading}
 use borrow.Author.Needs.{needs}
-use Prim.Native.Nat.{_-_}
-use mathlib.Core.Path.{refl}
-use lib.ListN.{length}
-use Rattle.sheet.proofs.Readings.{Kept, stops, goes-on, ends, stays-open}
 use Rattle.sheet.proofs.read.Statement.{statement}
 use Rattle.sheet.proofs.read.Tie as tie
 
-abbrev Inv-loop : tie.InvT-loop
-Inv-loop sheet s₀ i₀ s i = Kept sheet s i
+returns : tie.Need-returns
+returns c = at-length (c .before .before .args .sheet .now) (⊎-elim (λ t. inl (t .taken)) (λ t. inr (ltb-true _ _ (t .1 .taken))) (c .if1 .came))
 
-abbrev μ-loop : tie.MeasureT-loop
-μ-loop sheet s₀ i₀ s i = length sheet - i
+read-words-requires : tie.Need-read-words-requires
+read-words-requires c κs = search needs
 
-loop-holds : tie.Need-loop-holds Inv-loop μ-loop
-loop-holds c = record { same = refl; few = omega arith }
-
-mul-word : tie.Need-mul-word Inv-loop μ-loop
-mul-word c = search needs
-
-shared-slice-read-word : tie.Need-shared-slice-read-word Inv-loop μ-loop
-shared-slice-read-word c = search needs
-
-judge-requires : tie.Need-judge-requires Inv-loop μ-loop
-judge-requires c κs = search needs
-
-enum-known-x : tie.Need-enum-known-x Inv-loop μ-loop
-enum-known-x c = search needs
-
-returns : tie.Need-returns Inv-loop μ-loop
-returns c = search stops
-
-enum-told : tie.Need-enum-told Inv-loop μ-loop
-enum-told c = search needs
-
-next-requires : tie.Need-next-requires Inv-loop μ-loop
-next-requires c κs = search needs
-
-add-i : tie.Need-add-i Inv-loop μ-loop
-add-i c = search needs
-
-loop-less : tie.Need-loop-less Inv-loop μ-loop
-loop-less c = search needs
-
-loop-again : tie.Need-loop-again Inv-loop μ-loop
-loop-again c = search goes-on
-
-returns-2 : tie.Need-returns-2 Inv-loop μ-loop
-returns-2 c = search ends
-
-returns-3 : tie.Need-returns-3 Inv-loop μ-loop
-returns-3 c = search stays-open
+returns-2 : tie.Need-returns-2
+returns-2 c = at-reading (c .before .before .before .before .args .sheet .now) (c .before .before .if1 .left) (ltb-false _ _ (c .before .if2 .left)) (c .read-words .ensures)
 
 pub read-spec : {M : Type 1} → statement M
-read-spec =
-    tie.close
-    (tie.spec
-    Inv-loop
-    μ-loop
-    loop-holds
-    mul-word
-    shared-slice-read-word
-    judge-requires
-    enum-known-x
-    returns
-    enum-told
-    next-requires
-    add-i
-    loop-less
-    loop-again
-    returns-2
-    returns-3)
+read-spec = tie.close (tie.spec returns read-words-requires returns-2)
