@@ -14,7 +14,7 @@ use Rattle.round.specs.declared.Selected.{Selected}
 use Rattle.round.specs.declared.Selected.the-variants.{At, Short as Ended}
 use Rattle.sheet.specs.Reading.{Numbered}
 use Rattle.sheet.specs.Refusal.{Verdict, refused, fits}
-use Rattle.selection.specs.Choice.{Reply, numbers}
+use Rattle.sheet.specs.Reply.{Reply, numbers}
 use Rattle.exports.specs.Reply.{Replied, Chose, Answered}
 
 pub replied-value : {d : Drawn} {v n x y : ℕ} → Value v n ≡ d → Replied d true x v y n

@@ -14,9 +14,10 @@ use Rattle.sheet.specs.Reading.{Numbered, numbered}
 use Rattle.sheet.specs.Rounds.{named, inUse}
 use Rattle.sheet.proofs.Those.{those-few}
 use Rattle.sheet.specs.Refusal.{refused, fits, verdict}
+use Rattle.sheet.specs.Reply.{Reply, ofRefusal, replied, unlessRefused}
 use Rattle.sheet.proofs.Verdicts.{decided}
 use Rattle.sheet.specs.declared.Side.the-variants.{New}
-use Rattle.selection.specs.Choice.{planOf, Choice, Panel, chosen, short, panel, Reply, refusal, replied, ofPanel, ofLent, reply, written, writtenOf, unlessRefused, output}
+use Rattle.selection.specs.Choice.{planOf, Choice, Panel, chosen, short, panel, ofPanel, ofLent, reply, written, writtenOf, output}
 use Rattle.selection.proofs.Steps.{Steps, none, some, steps}
 use Rattle.panel.specs.Slices.{firstWord, secondWord, pairs, Picked}
 use Rattle.panel.specs.declared.Picks.{Picks}
@@ -33,7 +34,7 @@ written-pairs (c ∷ cs) out =
 -- ---- what the code gathered
 
 module _ (p : Picks) (start : ℕ) where
-  short-reply : (pl : Panel) → Picked pl p → (p .short ≡ 0 → ⊥) → refusal (numbered 13 (p .short)) ≡ ofPanel start pl
+  short-reply : (pl : Panel) → Picked pl p → (p .short ≡ 0 → ⊥) → ofRefusal (numbered 13 (p .short)) ≡ ofPanel start pl
   short-reply (chosen cs next) d h = absurd (h (d .finished))
   short-reply (short r) d h = rw (d .1)
 
@@ -71,25 +72,25 @@ panel-count {ls} {ws} {from} (some {r = r} q k) =
 -- ---- the ways out
 
 -- a refusal leaves the output
-pub left : (x : Numbered) {y : Reply} (out new : List ℕ) → 0 < x .number → refusal x ≡ y → (refusal x ≡ y) × (out ≡ unlessRefused y out new)
+pub left : (x : Numbered) {y : Reply} (out new : List ℕ) → 0 < x .number → ofRefusal x ≡ y → (ofRefusal x ≡ y) × (out ≡ unlessRefused y out new)
 left x out new h e = (e, rw (← e, ne-eqb (x .number) 0 (λ z. omega (arith, z, h))))
 
 pub few-rounds : (ls : List Lift) → length (inUse New ls) ≤ mostRounds
 few-rounds ls = those-few (λ r. ltb 0 (named New r ls)) 1 mostRounds
 
 module _ (ls : List Lift) (ws : List ℕ) (start : ℕ) (out : List ℕ) where
-  pub late : (n : ℕ) → length ws < start → refusal (numbered 11 start) ≡ ofLent ls n ws start (length out)
+  pub late : (n : ℕ) → length ws < start → ofRefusal (numbered 11 start) ≡ ofLent ls n ws start (length out)
   late n h = rw (lt-ltb (length ws) start h)
 
   module _ (n : ℕ) (a : start ≤ length ws) where
-    pub narrow : length out < 2 * n → refusal (numbered 12 (2 * n)) ≡ ofLent ls n ws start (length out)
+    pub narrow : length out < 2 * n → ofRefusal (numbered 12 (2 * n)) ≡ ofLent ls n ws start (length out)
     narrow h = rw (le-ltb (length ws) start a, lt-ltb (length out) (2 * n) h)
 
     module _ (b : 2 * n ≤ length out) (p : Picks) (d : Picked (panel ls ws start) p) where
       through : ofPanel start (panel ls ws start) ≡ ofLent ls n ws start (length out)
       through = rw (le-ltb (length ws) start a, le-ltb (length out) (2 * n) b)
 
-      pub ran-short : (p .short ≡ 0 → ⊥) → refusal (numbered 13 (p .short)) ≡ ofLent ls n ws start (length out)
+      pub ran-short : (p .short ≡ 0 → ⊥) → ofRefusal (numbered 13 (p .short)) ≡ ofLent ls n ws start (length out)
       ran-short h = short-reply p start (panel ls ws start) d h ∙ through
 
       pub ran : p .short ≡ 0 → replied (p .count) (p .next - start) ≡ ofLent ls n ws start (length out)
@@ -115,7 +116,7 @@ module _ (ls : List Lift) (ws : List ℕ) (start : ℕ) (out : List ℕ) where
 
 -- a refused sheet, and a fitting one
 module _ (sheet ws : List ℕ) (start : ℕ) (out : List ℕ) where
-  pub at-sheet : {x : Numbered} → refused x ≡ verdict sheet → (refusal x ≡ reply sheet ws start (length out)) × (out ≡ output sheet ws start out)
+  pub at-sheet : {x : Numbered} → refused x ≡ verdict sheet → (ofRefusal x ≡ reply sheet ws start (length out)) × (out ≡ output sheet ws start out)
   unfolding reply output
   at-sheet {x} e = rw (← e) (left x out _ (decided sheet .above x (sym e)) refl)
 

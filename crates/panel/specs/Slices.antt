@@ -18,10 +18,11 @@ use Rattle.round.specs.declared.Selected.the-variants.{At as AtPlace, Short}
 use Rattle.sheet.specs.Sheet.{mostRounds}
 use Rattle.sheet.specs.Reading.{numbered}
 use Rattle.sheet.specs.Rounds.{those}
-use Rattle.sheet.specs.Refusal.{refusal as refusalOf}
+use Rattle.sheet.specs.Refusal.{refusal}
+use Rattle.sheet.specs.Reply.{Reply, ofRefusal, replied}
 use Rattle.sheet.specs.declared.Found.{Found}
 use Rattle.sheet.specs.declared.Found.the-variants.{At, Nothing}
-use Rattle.selection.specs.Choice.{further, Choice, Panel, chosen, short, Reply, refusal, replied, roundWord, liftWord}
+use Rattle.selection.specs.Choice.{further, Choice, Panel, chosen, short, roundWord, liftWord}
 use Rattle.panel.specs.declared.Senders.{Senders}
 use Rattle.panel.specs.declared.Senders.the-variants.{None, One, Two}
 use Rattle.panel.specs.declared.Picks.{Picks}
@@ -211,8 +212,8 @@ pairs (a ∷ xs) (b ∷ bs) = a ∷ b ∷ pairs xs bs
 
 -- what an answer replies: the document's number and values for each case
 abbrev pub told : Answer → Reply
-told (Sheet x) = refusal (refusalOf x)
-told (Start at) = refusal (numbered 11 at)
-told (Output need) = refusal (numbered 12 need)
-told (Words r) = refusal (numbered 13 r)
+told (Sheet x) = ofRefusal (refusal x)
+told (Start at) = ofRefusal (numbered 11 at)
+told (Output need) = ofRefusal (numbered 12 need)
+told (Words r) = ofRefusal (numbered 13 r)
 told (Chosen n k) = replied n k

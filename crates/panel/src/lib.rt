@@ -10,8 +10,9 @@ ghost use Rattle.sheet.specs.Sheet.{mostLifts, mostRounds, lifts as liftsOfShee
 ghost use Rattle.sheet.specs.Reading.{Legible};
 ghost use Rattle.sheet.specs.Tables.{fieldOf, startsOf, ByRound, first};
 ghost use Rattle.sheet.specs.Rounds.{those, inUse};
+ghost use Rattle.sheet.specs.Reply.{unlessRefused};
 ghost use Rattle.sheet.specs.Law.{Fitting};
-ghost use Rattle.selection.specs.Choice.{panel as panelOf, ofLent, writtenOf, unlessRefused, reply, output};
+ghost use Rattle.selection.specs.Choice.{panel as panelOf, ofLent, writtenOf, reply, output};
 ghost use Rattle.selection.specs.Fair.{Fair};
 ghost use Rattle.panel.specs.Slices.{bitAt, sendersOf, numberOf as numberFor, withTable, heldPlace, initialOf, heldBy, roundOf, Even, Within, lent, Ready, Room, Small, picked, after, stepped, steppedFrom, noPicks, pairs, Picked, told};
 use round::Donors;

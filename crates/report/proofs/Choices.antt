@@ -14,9 +14,10 @@ use Rattle.round.specs.Choice.{Selection, isHeld, outcome}
 use Rattle.round.specs.declared.Held.{Held}
 use Rattle.sheet.specs.Sheet.{mostRounds, kind, liftKind, Lift, lifts}
 use Rattle.sheet.specs.Rounds.{named, inUse, ofRound}
+use Rattle.sheet.specs.Reply.{replied}
 use Rattle.sheet.specs.declared.Side.the-variants.{New}
 use Rattle.sheet.proofs.Those.{those-in, those-few}
-use Rattle.selection.specs.Choice.{heldIn, planOf, nobody, liftAt, Choice, chosen, panel, replied, reply}
+use Rattle.selection.specs.Choice.{heldIn, planOf, nobody, liftAt, Choice, chosen, panel, reply}
 use Rattle.selection.proofs.Replies.{ran}
 use Rattle.selection.proofs.Steps.{Steps, none, some, steps}
 

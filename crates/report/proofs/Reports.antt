@@ -10,7 +10,8 @@ use lib.Seq.{take-take}
 use borrow.Author.Tests.{eq-eqb, ne-eqb, lt-ltb, le-ltb, eqb-true, eqb-false, ltb-false}
 use Rattle.sheet.specs.Sheet.{mostRounds, longest}
 use Rattle.sheet.specs.Reading.{numbered}
-use Rattle.selection.specs.Choice.{written, Reply, numbers, replied, reply, output}
+use Rattle.sheet.specs.Reply.{Reply, numbers, replied}
+use Rattle.selection.specs.Choice.{written, reply, output}
 use Rattle.report.specs.Report.{mostWords, sheetWords, randomWords, lines, wordsLine, refusedLine, textOf, report, pairLines, printedWords, textRoom, Ready}
 use Rattle.report.proofs.Choices.{made}
 use Rattle.report.proofs.Sizes.{chosen-le}

@@ -11,12 +11,13 @@ use borrow.Author.Tests.{eq-eqb, ne-eqb, lt-ltb, ltb-true}
 use Rattle.sheet.specs.Sheet.{mostRounds, longest}
 use Rattle.sheet.specs.Reading.{numbered}
 use Rattle.sheet.specs.Refusal.{verdict}
-use Rattle.selection.specs.Choice.{refusal, reply}
+use Rattle.sheet.specs.Reply.{ofRefusal}
+use Rattle.selection.specs.Choice.{reply}
 use Rattle.report.specs.Report.{sheetWords, randomWords, refusedLine, textOf, report, WholeTheorem}
 use Rattle.report.proofs.Words.{length-words}
 use Rattle.report.proofs.Reports.{text-refused}
 
-long-refused : (sheet ws : List ℕ) → longest < length sheet → reply sheet ws 0 (2 * mostRounds) ≡ refusal (numbered 1 (length sheet))
+long-refused : (sheet ws : List ℕ) → longest < length sheet → reply sheet ws 0 (2 * mostRounds) ≡ ofRefusal (numbered 1 (length sheet))
 unfolding reply verdict
 long-refused sheet ws l = rw (lt-ltb longest (length sheet) l, ne-eqb (length sheet) 0 (omega arith))
 

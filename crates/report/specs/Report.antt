@@ -8,7 +8,8 @@ use lib.ListN.{length, take, drop}
 use Rattle.sheet.specs.Sheet.{mostRounds, longest, payload, placeOf, lifts}
 use Rattle.sheet.specs.Reading.{Numbered, numbered}
 use Rattle.sheet.specs.Tables.{tabulate}
-use Rattle.selection.specs.Choice.{Choice, Panel, chosen, short, panel, Reply, reply}
+use Rattle.sheet.specs.Reply.{Reply}
+use Rattle.selection.specs.Choice.{Choice, Panel, chosen, short, panel, reply}
 
 -- ---- the files
 

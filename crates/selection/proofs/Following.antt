@@ -13,8 +13,9 @@ use Rattle.draw.proofs.Runs.{follows}
 use Rattle.round.specs.Choice.{Selection, outcome}
 use Rattle.sheet.specs.Sheet.{Lift, lifts}
 use Rattle.sheet.specs.Rounds.{inUse}
+use Rattle.sheet.specs.Reply.{replied}
 use Rattle.sheet.specs.declared.Side.the-variants.{New}
-use Rattle.selection.specs.Choice.{heldIn, planOf, liftAt, Choice, chosen, panel, replied, reply, pair, written, output}
+use Rattle.selection.specs.Choice.{heldIn, planOf, liftAt, Choice, chosen, panel, reply, pair, written, output}
 use Rattle.selection.specs.Fair.{draws}
 use Rattle.selection.proofs.Replies.{ran}
 use Rattle.selection.proofs.Steps.{made, Steps, none, some, steps}

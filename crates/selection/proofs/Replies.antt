@@ -10,8 +10,9 @@ use borrow.Author.Tests.{ltb-false}
 use Rattle.sheet.specs.Sheet.{lifts}
 use Rattle.sheet.specs.Reading.{numbered}
 use Rattle.sheet.specs.Refusal.{Verdict, refused, fits, verdict}
+use Rattle.sheet.specs.Reply.{ofRefusal, replied}
 use Rattle.sheet.proofs.Verdicts.{decided}
-use Rattle.selection.specs.Choice.{Choice, Panel, chosen, short, panel, refusal, replied, ofPanel, ofLent, ofVerdict, reply}
+use Rattle.selection.specs.Choice.{Choice, Panel, chosen, short, panel, ofPanel, ofLent, ofVerdict, reply}
 
 -- the choices of a run, their number, and the words that were read
 pub record Ran (sheet ws : List ℕ) (start n k : ℕ) : Type 0 where
@@ -35,7 +36,7 @@ ran sheet ws start room {n} {k} e = judged (verdict sheet) refl e
     lent rounds q = go (ltb (length ws) start) refl (ltb room (2 * rounds)) q
       where
         go : (t : Bool) → ltb (length ws) start ≡ t → (u : Bool)
-            → cond t (refusal (numbered 11 start)) (cond u (refusal (numbered 12 (2 * rounds))) (ofPanel start (panel (lifts sheet) ws start))) ≡ replied n k
+            → cond t (ofRefusal (numbered 11 start)) (cond u (ofRefusal (numbered 12 (2 * rounds))) (ofPanel start (panel (lifts sheet) ws start))) ≡ replied n k
             → Ran sheet ws start n k
         go true h u q = absurd (omega (arith, ap (λ r. r .number) q))
         go false h true q = absurd (omega (arith, ap (λ r. r .number) q))

@@ -20,6 +20,7 @@ use Rattle.sheet.specs.Sheet.{Lift, lifts, word}
 use Rattle.sheet.specs.Reading.{Numbered, numbered}
 use Rattle.sheet.specs.Rounds.{inUse, sumOf, donors, ofRound}
 use Rattle.sheet.specs.Refusal.{Verdict, refused, fits, verdict}
+use Rattle.sheet.specs.Reply.{Reply, replied, ofRefusal, unlessRefused}
 use Rattle.sheet.specs.declared.Side.the-variants.{Old, New}
 
 -- ---- one round of a sheet
@@ -110,38 +111,21 @@ panel ls ws start = panelFrom ls ws start (inUse New ls)
 
 -- ---- the reply and the output
 
--- what a call replies: its number, a place or a count, and how many random words it read
-pub record Reply : Type 0 where
-  pub number : ℕ
-  pub second : ℕ
-  pub third : ℕ
-
-abbrev pub numbers : ℕ → ℕ → ℕ → Reply
-numbers n a b = record { number = n; second = a; third = b }
-
--- "The reply is number 0, how many choices, and how many chance words were read, those passed over included."
-abbrev pub replied : (choices words : ℕ) → Reply
-replied n k = numbers 0 n k
-
--- "A refusal replies number, place and 0 words read"
-abbrev pub refusal : Numbered → Reply
-refusal x = numbers (x .number) (x .place) 0
-
 -- "13. The chance words end before a needed draw is finished. Place: the new round."
 abbrev pub ofPanel : ℕ → Panel → Reply
 ofPanel start (chosen cs next) = replied (length cs) (next - start)
-ofPanel start (short r) = refusal (numbered 13 r)
+ofPanel start (short r) = ofRefusal (numbered 13 r)
 
 -- "11. Start position above the number of chance words. Place: the start."
 -- "12. Output shorter than the choices need. Place: the words needed."
 abbrev pub ofLent : List Lift → ℕ → List ℕ → ℕ → ℕ → Reply
 ofLent ls rounds ws start room =
-    cond (ltb (length ws) start) (refusal (numbered 11 start))
-    (cond (ltb room (2 * rounds)) (refusal (numbered 12 (2 * rounds)))
+    cond (ltb (length ws) start) (ofRefusal (numbered 11 start))
+    (cond (ltb room (2 * rounds)) (ofRefusal (numbered 12 (2 * rounds)))
     (ofPanel start (panel ls ws start)))
 
 abbrev pub ofVerdict : Verdict → List Lift → List ℕ → ℕ → ℕ → Reply
-ofVerdict (refused x) ls ws start room = refusal x
+ofVerdict (refused x) ls ws start room = ofRefusal x
 ofVerdict (fits n k) ls ws start room = ofLent ls k ws start room
 
 -- the reply to a sheet, random words, a start position and an output of so many words
@@ -171,10 +155,6 @@ written (c ∷ cs) out = pairOf c ++ written cs (drop 2 out)
 abbrev pub writtenOf : Panel → List ℕ → List ℕ
 writtenOf (chosen cs next) out = written cs out
 writtenOf (short r) out = out
-
--- a refusal "changes nothing lent"
-abbrev pub unlessRefused : Reply → List ℕ → List ℕ → List ℕ
-unlessRefused r out new = cond (eqb (r .number) 0) new out
 
 -- the output after the call
 unfoldable pub output : List ℕ → List ℕ → ℕ → List ℕ → List ℕ

@@ -13,9 +13,10 @@ use Rattle.round.specs.Keep.{Best}
 use Rattle.sheet.specs.Sheet.{Lift, lifts, sheetOf}
 use Rattle.sheet.specs.Rounds.{inUse, sumOf, donors, ofRound}
 use Rattle.sheet.specs.Refusal.{fits, verdict}
+use Rattle.sheet.specs.Reply.{replied}
 use Rattle.sheet.specs.Law.{Fitting}
 use Rattle.sheet.specs.declared.Side.the-variants.{Old, New}
-use Rattle.selection.specs.Choice.{donorsOf, liftsOf, heldIn, planOf, liftAt, Panel, chosen, short, panel, replied, reply, pair, output}
+use Rattle.selection.specs.Choice.{donorsOf, liftsOf, heldIn, planOf, liftAt, Panel, chosen, short, panel, reply, pair, output}
 use Rattle.selection.specs.Initial.{selections, marked, overSelections}
 
 -- what the paths weigh together, over all initial selections, that choose the lift at place j of round r: "The way weighs the product

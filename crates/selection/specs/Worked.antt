@@ -9,9 +9,10 @@ use lib.ListN.{length}
 use Rattle.round.specs.Worked.{same}
 use Rattle.sheet.specs.Sheet.{Lift, sheetOf}
 use Rattle.sheet.specs.Rounds.{sumOf}
+use Rattle.sheet.specs.Reply.{Reply, numbers}
 use Rattle.sheet.specs.Worked.{lift, example}
 use Rattle.sheet.specs.declared.Side.the-variants.{New}
-use Rattle.selection.specs.Choice.{liftAt, Reply, numbers, reply, output}
+use Rattle.selection.specs.Choice.{liftAt, reply, output}
 use Rattle.selection.specs.Fair.{share, kept}
 
 -- a sheet, random words, a start and an output, with the reply and the output after the call

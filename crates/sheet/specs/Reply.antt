@@ -1,0 +1,27 @@
+-- What a call replies, and what a refusal leaves of the lent words.
+use Prim.Native.Nat.{ℕ}
+use mathlib.Core.Bool.{cond}
+use mathlib.Core.List.{List}
+use lib.Dec.{eqb}
+use Rattle.sheet.specs.Reading.{Numbered}
+
+-- a call's reply: its number, a place or a count, and how many random words it read
+pub record Reply : Type 0 where
+  pub number : ℕ
+  pub second : ℕ
+  pub third : ℕ
+
+abbrev pub numbers : ℕ → ℕ → ℕ → Reply
+numbers n a b = record { number = n; second = a; third = b }
+
+-- "The reply is number 0, how many choices, and how many chance words were read, those passed over included."
+abbrev pub replied : (many words : ℕ) → Reply
+replied n k = numbers 0 n k
+
+-- "A refusal replies number, place and 0 words read"
+abbrev pub ofRefusal : Numbered → Reply
+ofRefusal x = numbers (x .number) (x .place) 0
+
+-- a refusal "changes nothing lent"
+abbrev pub unlessRefused : Reply → List ℕ → List ℕ → List ℕ
+unlessRefused r before after = cond (eqb (r .number) 0) after before
