@@ -6,6 +6,7 @@ ghost use Rattle.round.specs.Choice.{selected};
 ghost use Rattle.round.specs.Slices.{lifts, Level, Callable};
 ghost use Rattle.sheet.specs.Refusal.{verdict};
 ghost use Rattle.sheet.specs.Reply.{numbers};
+ghost use Rattle.counts.specs.Counts.{reply as countsReply, output as countsOutput};
 ghost use Rattle.selection.specs.Choice.{reply, output};
 ghost use Rattle.exports.specs.Reply.{Replied, donorsOf, heldOf, Chose, Answered};
 use draw::Drawn;
@@ -140,6 +141,23 @@ pub extern "C" fn jengpilo_panel_choose(
     ensures written { λ _. ⌜ now (out .exit) ≡ output (now (sheet .entry)) (now (words .entry)) start (now (out .entry)) ⌝ }
 {
     let answer = panel::choose(sheet, words, start, out);
+    *second = answer.second();
+    *third = answer.third();
+    answer.number()
+}
+
+// `counts::take`: the document's number and place, and 0 words read; or 0, how many lines were taken, and 0.
+#[no_mangle]
+pub extern "C" fn jengpilo_counts_take(
+    sheet: &mut [u32],
+    text: &[u8],
+    second: &mut usize,
+    third: &mut usize,
+) -> u32
+    ensures replied { λ r. ⌜ numbers r (now (second .exit)) (now (third .exit)) ≡ countsReply (now (sheet .entry)) (now (text .entry)) ⌝ }
+    ensures written { λ _. ⌜ now (sheet .exit) ≡ countsOutput (now (sheet .entry)) (now (text .entry)) ⌝ }
+{
+    let answer = counts::take(sheet, text);
     *second = answer.second();
     *third = answer.third();
     answer.number()

@@ -38,7 +38,7 @@ impl Sheet {
 
     const OLD: u32 = 2;
 
-    const NEW: u32 = 3;
+    pub const NEW: u32 = 3;
 
     const HELD: u32 = 4;
 
@@ -344,7 +344,7 @@ pub fn read(sheet: &[u32]) -> Judged
 // ---- the lifts of a legible sheet
 
 // How many held words the lift at position i has.
-fn marks(sheet: &[u32], i: usize) -> usize
+pub fn marks(sheet: &[u32], i: usize) -> usize
     requires { ⌜ i + 3 < length (now sheet) ⌝ }
     ensures { λ r. ⌜ r ≡ indicator (liftOf (drop i (now (sheet .entry))) .held) ⌝ }
 {
@@ -366,7 +366,7 @@ fn place(sheet: &[u32], i: usize, side: Side) -> u32
 }
 
 // A field of the lift at position i.
-fn value(sheet: &[u32], i: usize, field: Field) -> u64
+pub fn value(sheet: &[u32], i: usize, field: Field) -> u64
     requires { ⌜ i + 3 < length (now sheet) ⌝ }
     ensures { λ r. ⌜ r ≡ fieldOf field (liftOf (drop i (now (sheet .entry)))) ⌝ }
 {
@@ -519,7 +519,7 @@ fn in_use(sheet: &[u32]) -> usize
 }
 
 // How many lifts there are, by the end word.
-fn size(sheet: &[u32]) -> usize
+pub fn size(sheet: &[u32]) -> usize
     requires { ⌜ Legible (now sheet) ⌝ }
     ensures { λ r. ⌜ r ≡ length (lifts (now (sheet .entry))) ⌝ }
 {

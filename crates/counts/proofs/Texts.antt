@@ -1,0 +1,379 @@
+-- A line read field by field is the line split off and then read: digits belong to the line, what ends them is a comma, an ending, or no digit.
+use Prim.Native.Nat.{ℕ, zero, suc, _+_, _*_, _-_, _≤_, _<_}
+use mathlib.Core.Path.{_≡_, refl, sym, ap, ap₂, _∙_}
+use mathlib.Core.Bool.{Bool, true, false, cond, not, _&&_, false≢true, true≢false}
+use mathlib.Core.Logic.{_⊎_, inl, inr}
+use mathlib.Core.List.{List, [], _∷_, _++_, append-nil}
+use native.Mathlib.Nat.{add-zero}
+use native.Mathlib.Numerals.{add-one}
+use native.Mathlib.Omega.{arith}
+use lib.Dec.{eqb, leb, ltb}
+use lib.ListN.{List·getD-eq-default, length, getD, take, drop, drop-of-length-le}
+use lib.Seq.{drop-cons, drop-drop, getD-drop}
+use borrow.Author.Tests.{eqb-true, eqb-false, eq-eqb, ne-eqb, leb-true, not-true}
+use Rattle.sheet.specs.declared.Found.{Found}
+use Rattle.sheet.specs.declared.Found.the-variants.{At, Nothing}
+use Rattle.counts.specs.Text.{LF, CR, comma, ahead, endingCR, lines, before, behind, isDigit, allDigits, valueFrom, value, empty, isNumber, largestLift, largestCount, Entry, counted, malformed, entry}
+use Rattle.counts.specs.Scan.{span, leading, pickNumber, numberAt, line, extent, pickFound, endingAt, lineOf, lineAt}
+use Rattle.counts.specs.declared.Number.{Number}
+use Rattle.counts.specs.declared.Number.the-variants.{Is, Not}
+use Rattle.counts.specs.declared.Line.{Line}
+use Rattle.counts.specs.declared.Line.the-variants.{Entry as EntryLine, Malformed}
+use Rattle.counts.proofs.Numbers.{and-false, leading-digits, digit-low}
+
+-- ---- the first line of a text
+
+-- bytes that begin with LF are an empty line
+line-LF : (bs : List ℕ) → eqb (getD bs 0 0) LF ≡ true → line bs ≡ []
+unfolding line
+line-LF [] h = refl
+line-LF (b ∷ bs) h = rw h
+
+endingCR-LF : (b : ℕ) (bs : List ℕ) → endingCR b bs ≡ true → eqb (getD bs 0 0) LF ≡ true
+endingCR-LF b bs h = go (eqb b CR) h
+  where
+    go : (t : Bool) → (t && eqb (getD bs 0 0) LF) ≡ true → eqb (getD bs 0 0) LF ≡ true
+    go true e = e
+    go false e = absurd (false≢true e)
+
+-- a text with a byte is its first line and the lines behind that
+pub first-line : (b : ℕ) (bs : List ℕ) → lines (b ∷ bs) ≡ line (b ∷ bs) ∷ lines (drop (extent (b ∷ bs)) (b ∷ bs))
+unfolding lines line extent
+first-line b [] = go (eqb b LF) (endingCR b []) refl
+  where
+    go : (t u : Bool) → endingCR b [] ≡ u → cond t ([] ∷ []) (cond u [] ((b ∷ []) ∷ [])) ≡ cond t [] (cond u [] (b ∷ [])) ∷ lines (drop (cond t 1 1) (b ∷ []))
+    go true u e = refl
+    go false true e = absurd (false≢true (endingCR-LF b [] e))
+    go false false e = refl
+first-line b (c ∷ cs) = go (eqb b LF) (endingCR b (c ∷ cs)) (first-line c cs)
+  where
+    go : (t u : Bool) → lines (c ∷ cs) ≡ line (c ∷ cs) ∷ lines (drop (extent (c ∷ cs)) (c ∷ cs))
+        → cond t ([] ∷ lines (c ∷ cs)) (cond u (lines (c ∷ cs)) (ahead b (lines (c ∷ cs))))
+        ≡ cond t [] (cond u (line (c ∷ cs)) (b ∷ line (c ∷ cs))) ∷ lines (drop (cond t 1 (suc (extent (c ∷ cs)))) (b ∷ c ∷ cs))
+    go true u h = refl
+    go false true h = h
+    go false false h = ap (ahead b) h
+
+-- ---- what begins with no digit
+
+abbrev foreign : List ℕ → Bool
+foreign [] = true
+foreign (b ∷ bs) = not (isDigit b)
+
+span-foreign : (bs : List ℕ) → foreign (drop (span bs) bs) ≡ true
+unfolding span
+span-foreign [] = refl
+span-foreign (b ∷ bs) = go (isDigit b) refl (span-foreign bs)
+  where
+    go : (t : Bool) → isDigit b ≡ t → foreign (drop (span bs) bs) ≡ true → foreign (drop (cond t (suc (span bs)) 0) (b ∷ bs)) ≡ true
+    go true e h = h
+    go false e h = rw e
+
+-- the first byte of a line is that of the text, or the line is empty
+line-head : (bs : List ℕ) → (line bs ≡ []) ⊎ (getD (line bs) 0 0 ≡ getD bs 0 0)
+unfolding line
+line-head [] = inl refl
+line-head (b ∷ bs) = go (eqb b LF) (endingCR b bs) refl
+  where
+    go : (t u : Bool) → endingCR b bs ≡ u → (cond t [] (cond u (line bs) (b ∷ line bs)) ≡ []) ⊎ (getD (cond t [] (cond u (line bs) (b ∷ line bs))) 0 0 ≡ b)
+    go true u e = inl refl
+    go false true e = inl (line-LF bs (endingCR-LF b bs e))
+    go false false e = inr refl
+
+line-foreign : (bs : List ℕ) → foreign bs ≡ true → foreign (line bs) ≡ true
+unfolding line
+line-foreign [] h = refl
+line-foreign (b ∷ bs) h = go (eqb b LF) (endingCR b bs) refl
+  where
+    go : (t u : Bool) → endingCR b bs ≡ u → foreign (cond t [] (cond u (line bs) (b ∷ line bs))) ≡ true
+    go true u e = refl
+    go false true e = rw (line-LF bs (endingCR-LF b bs e))
+    go false false e = h
+
+before-foreign : (l : List ℕ) → foreign l ≡ true → foreign (before l) ≡ true
+unfolding before
+before-foreign [] h = refl
+before-foreign (b ∷ bs) h = go (eqb b comma)
+  where
+    go : (t : Bool) → foreign (cond t [] (b ∷ before bs)) ≡ true
+    go true = refl
+    go false = h
+
+-- digits followed by what begins with no digit are a number only if nothing follows
+digits-foreign : (ds : List ℕ) (b : ℕ) (bs : List ℕ) → isDigit b ≡ false → allDigits (ds ++ b ∷ bs) ≡ false
+unfolding allDigits
+digits-foreign [] b bs h = rw h
+digits-foreign (d ∷ ds) b bs h = rw (digits-foreign ds b bs h) (and-false (isDigit d))
+
+number-foreign : (limit : ℕ) (ds es : List ℕ) → foreign es ≡ true → isNumber limit (ds ++ es) ≡ cond (empty es) (isNumber limit ds) false
+number-foreign limit ds [] h = rw (append-nil ds)
+number-foreign limit ds (e ∷ es) h = rw (digits-foreign ds e es (not-true (isDigit e) h)) (and-false (not (empty (ds ++ e ∷ es))))
+
+-- ---- digits belong to the line
+
+module _ (b : ℕ) (d : isDigit b ≡ true) where
+  not-LF : eqb b LF ≡ false
+  not-LF = ne-eqb b LF (λ e. omega (arith, digit-low b d))
+
+  not-CR : eqb b CR ≡ false
+  not-CR = ne-eqb b CR (λ e. omega (arith, digit-low b d))
+
+  not-comma : eqb b comma ≡ false
+  not-comma = ne-eqb b comma (λ e. omega (arith, digit-low b d))
+
+line-leading : (bs : List ℕ) → line bs ≡ leading bs ++ line (drop (span bs) bs)
+unfolding line span
+line-leading [] = refl
+line-leading (b ∷ bs) = go (isDigit b) refl (line-leading bs)
+  where
+    go : (t : Bool) → isDigit b ≡ t → line bs ≡ leading bs ++ line (drop (span bs) bs)
+        → line (b ∷ bs) ≡ take (cond t (suc (span bs)) 0) (b ∷ bs) ++ line (drop (cond t (suc (span bs)) 0) (b ∷ bs))
+    go true e h = rw (not-LF b e, not-CR b e) (ap (λ l. b ∷ l) h)
+    go false e h = refl
+
+extent-leading : (bs : List ℕ) → extent bs ≡ span bs + extent (drop (span bs) bs)
+unfolding extent span
+extent-leading [] = refl
+extent-leading (b ∷ bs) = go (isDigit b) refl (extent-leading bs)
+  where
+    go : (t : Bool) → isDigit b ≡ t → extent bs ≡ span bs + extent (drop (span bs) bs)
+        → extent (b ∷ bs) ≡ cond t (suc (span bs)) 0 + extent (drop (cond t (suc (span bs)) 0) (b ∷ bs))
+    go true e h = rw (not-LF b e) (omega arith)
+    go false e h = omega arith
+
+before-leading : (bs l : List ℕ) → before (leading bs ++ l) ≡ leading bs ++ before l
+unfolding before span
+before-leading [] l = refl
+before-leading (b ∷ bs) l = go (isDigit b) refl (before-leading bs l)
+  where
+    go : (t : Bool) → isDigit b ≡ t → before (leading bs ++ l) ≡ leading bs ++ before l
+        → before (take (cond t (suc (span bs)) 0) (b ∷ bs) ++ l) ≡ take (cond t (suc (span bs)) 0) (b ∷ bs) ++ before l
+    go true e h = rw (not-comma b e) (ap (λ l. b ∷ l) h)
+    go false e h = refl
+
+behind-leading : (bs l : List ℕ) → behind (leading bs ++ l) ≡ behind l
+unfolding behind span
+behind-leading [] l = refl
+behind-leading (b ∷ bs) l = go (isDigit b) refl (behind-leading bs l)
+  where
+    go : (t : Bool) → isDigit b ≡ t → behind (leading bs ++ l) ≡ behind l → behind (take (cond t (suc (span bs)) 0) (b ∷ bs) ++ l) ≡ behind l
+    go true e h = rw (not-comma b e) h
+    go false e h = refl
+
+-- ---- the two fields of a line
+
+module _ (bs : List ℕ) where
+  lift-field : isNumber largestLift (before (line bs)) ≡ cond (empty (before (line (drop (span bs) bs)))) (isNumber largestLift (leading bs)) false
+  lift-field =
+      rw (line-leading bs, before-leading bs (line (drop (span bs) bs)))
+      (number-foreign largestLift (leading bs) (before (line (drop (span bs) bs))) (before-foreign _ (line-foreign _ (span-foreign bs))))
+
+  count-field : behind (line bs) ≡ behind (line (drop (span bs) bs))
+  count-field = rw (line-leading bs) (behind-leading bs (line (drop (span bs) bs)))
+
+  count-number : isNumber largestCount (line bs) ≡ cond (empty (line (drop (span bs) bs))) (isNumber largestCount (leading bs)) false
+  count-number = rw (line-leading bs) (number-foreign largestCount (leading bs) (line (drop (span bs) bs)) (line-foreign _ (span-foreign bs)))
+
+-- a line with a faulty field
+no-lift : (l : List ℕ) → isNumber largestLift (before l) ≡ false → entry l ≡ malformed
+unfolding entry
+no-lift l h = rw h
+
+no-count : (l : List ℕ) → isNumber largestCount (behind l) ≡ false → entry l ≡ malformed
+unfolding entry
+no-count l h = rw (h, and-false (isNumber largestLift (before l)))
+
+cond-false : (t : Bool) → cond t false false ≡ false
+cond-false true = refl
+cond-false false = refl
+
+-- behind the digits no comma
+no-comma : (l : List ℕ) → (getD l 0 0 ≡ comma → ⊥) → (empty (before l) ≡ false) ⊎ (behind l ≡ [])
+unfolding before behind
+no-comma [] h = inr refl
+no-comma (b ∷ bs) h = inl (rw (ne-eqb b comma h))
+
+-- a comma begins the rest of the line
+line-comma : (bs : List ℕ) → line (comma ∷ bs) ≡ comma ∷ line bs
+unfolding line
+line-comma bs = refl
+
+comma-extent : (bs : List ℕ) → extent (comma ∷ bs) ≡ suc (extent bs)
+unfolding extent
+comma-extent bs = refl
+
+-- a line whose two fields are these numbers
+whole : (l : List ℕ) {a b : List ℕ} → before l ≡ a → behind l ≡ b → isNumber largestLift a ≡ true → isNumber largestCount b ≡ true → entry l ≡ counted (value a) (value b)
+unfolding entry
+whole l {a} {b} p q h k = rw (p, q, h, k)
+
+-- ---- the answers taken apart
+
+module _ (limit : ℕ) (text : List ℕ) (start : ℕ) where
+  number-is : {a b : ℕ} {x : Number} → x ≡ numberAt limit text start → x ≡ Is a b
+      → (isNumber limit (leading (drop start text)) ≡ true) × (a ≡ value (leading (drop start text))) × (b ≡ start + span (drop start text))
+  number-is {a} {b} {x} h e = go (isNumber limit (leading (drop start text))) (value (leading (drop start text))) (start + span (drop start text)) h
+    where
+      go : (t : Bool) (v n : ℕ) → x ≡ pickNumber t (Is v n) Not → (t ≡ true) × (a ≡ v) × (b ≡ n)
+      go true v n h = (refl, cc, cc)
+      go false v n h = (cc, cc, cc)
+
+  number-not : {x : Number} → x ≡ numberAt limit text start → x ≡ Not → isNumber limit (leading (drop start text)) ≡ false
+  number-not {x} h e = go (isNumber limit (leading (drop start text))) (value (leading (drop start text))) (start + span (drop start text)) h
+    where
+      go : (t : Bool) (v n : ℕ) → x ≡ pickNumber t (Is v n) Not → t ≡ false
+      go true v n h = cc
+      go false v n h = refl
+
+module _ (text : List ℕ) (start : ℕ) where
+  ending-at : {a : ℕ} {x : Found} → x ≡ endingAt text start → x ≡ At a → (empty (line (drop start text)) ≡ true) × (a ≡ start + extent (drop start text))
+  ending-at {a} {x} h e = go (empty (line (drop start text))) (start + extent (drop start text)) h
+    where
+      go : (t : Bool) (n : ℕ) → x ≡ pickFound t (At n) Nothing → (t ≡ true) × (a ≡ n)
+      go true n h = (refl, cc)
+      go false n h = (cc, cc)
+
+  ending-none : {x : Found} → x ≡ endingAt text start → x ≡ Nothing → empty (line (drop start text)) ≡ false
+  ending-none {x} h e = go (empty (line (drop start text))) (start + extent (drop start text)) h
+    where
+      go : (t : Bool) (n : ℕ) → x ≡ pickFound t (At n) Nothing → t ≡ false
+      go true n h = cc
+      go false n h = refl
+
+-- ---- the ways out of a line
+
+said : (text : List ℕ) (start : ℕ) → entry (line (drop start text)) ≡ malformed → Malformed ≡ lineAt text start
+said text start e = rw e
+
+-- a text from behind its first digits
+rest-is : (text : List ℕ) (start : ℕ) → drop (span (drop start text)) (drop start text) ≡ drop (start + span (drop start text)) text
+rest-is text start = drop-drop (span (drop start text)) start text
+
+rest-head : (text : List ℕ) (start n : ℕ) → n ≡ start + span (drop start text) → getD (drop (span (drop start text)) (drop start text)) 0 0 ≡ getD text n 0
+rest-head text start n e = rw (rest-is text start, ← e, getD-drop n text 0 0, add-zero)
+
+empty-line : (l : List ℕ) → empty l ≡ true → l ≡ []
+empty-line [] h = refl
+empty-line (b ∷ bs) h = absurd (false≢true h)
+
+module _ (text : List ℕ) (start : ℕ) {x : Number} (h : x ≡ numberAt largestLift text start) where
+  pub line-no-lift : x ≡ Not → Malformed ≡ lineAt text start
+  line-no-lift e =
+      let bs = drop start text in
+      said text start (no-lift (line bs) (lift-field bs ∙ rw (number-not largestLift text start h e) (cond-false (empty (before (line (drop (span bs) bs)))))))
+
+  module _ {lift at′ : ℕ} (e : x ≡ Is lift at′) where
+    pub line-no-comma : (getD text at′ 0 ≡ comma → ⊥) → Malformed ≡ lineAt text start
+    line-no-comma n = go (no-comma (line rest) (λ z. n (sym (rest-head text start at′ (number-is largestLift text start h e .2)) ∙ head z)))
+      where
+        rest : List ℕ
+        rest = drop (span (drop start text)) (drop start text)
+
+        head : getD (line rest) 0 0 ≡ comma → getD rest 0 0 ≡ comma
+        head z = pick (line-head rest)
+          where
+            pick : (line rest ≡ []) ⊎ (getD (line rest) 0 0 ≡ getD rest 0 0) → getD rest 0 0 ≡ comma
+            pick (inl q) = let y : _≡_ {A = ℕ} 0 comma = rw q at z in absurd (omega arith)
+            pick (inr q) = sym q ∙ z
+
+        go : (empty (before (line rest)) ≡ false) ⊎ (behind (line rest) ≡ []) → Malformed ≡ lineAt text start
+        go (inl q) = said text start (no-lift (line (drop start text)) (lift-field (drop start text) ∙ rw q))
+        go (inr q) = said text start (no-count (line (drop start text)) (rw (count-field (drop start text), q)))
+
+    pub line-short : length text ≤ at′ → Malformed ≡ lineAt text start
+    line-short l = line-no-comma (λ z. let y : _≡_ {A = ℕ} 0 comma = sym (List·getD-eq-default text 0 l) ∙ z in omega arith)
+
+    module _ (room : at′ < length text) (q : getD text at′ 0 ≡ comma) where
+      rest-comma : drop (span (drop start text)) (drop start text) ≡ comma ∷ drop (at′ + 1) text
+      rest-comma = rw (rest-is text start, ← number-is largestLift text start h e .2, drop-cons text at′ 0 room, q, add-one at′)
+
+      behind-comma : behind (line (drop start text)) ≡ line (drop (at′ + 1) text)
+      unfolding behind line
+      behind-comma = rw (count-field (drop start text), rest-comma)
+
+      before-comma : before (line (drop start text)) ≡ leading (drop start text)
+      unfolding before line
+      before-comma = rw (line-leading (drop start text), before-leading (drop start text) (line (drop (span (drop start text)) (drop start text))), rest-comma) (append-nil _)
+
+      module _ {y : Number} (g : y ≡ numberAt largestCount text (at′ + 1)) where
+        pub line-no-count : y ≡ Not → Malformed ≡ lineAt text start
+        line-no-count f =
+            let cs = drop (at′ + 1) text in
+            said text start (no-count _ (rw behind-comma (count-number cs ∙ rw (number-not largestCount text (at′ + 1) g f) (cond-false (empty (line (drop (span cs) cs)))))))
+
+        module _ {count end : ℕ} (f : y ≡ Is count end) where
+          rest-end : drop (span (drop (at′ + 1) text)) (drop (at′ + 1) text) ≡ drop end text
+          rest-end = rw (rest-is text (at′ + 1), ← number-is largestCount text (at′ + 1) g f .2)
+
+          module _ {z : Found} (k : z ≡ endingAt text end) where
+            pub line-no-ending : z ≡ Nothing → Malformed ≡ lineAt text start
+            line-no-ending w =
+                said text start (no-count _ (rw behind-comma (count-number (drop (at′ + 1) text) ∙ rw (rest-end, ending-none text end k w))))
+
+            pub line-whole : {next : ℕ} → z ≡ At next → EntryLine lift count next ≡ lineAt text start
+            line-whole {next} w =
+                let cs = drop (at′ + 1) text in
+                let o = ending-at text end k w in
+                let a = number-is largestLift text start h e in
+                let b = number-is largestCount text (at′ + 1) g f in
+                let l : line cs ≡ leading cs = line-leading cs ∙ rw (rest-end, empty-line (line (drop end text)) (o .0)) (append-nil (leading cs)) in
+                let s : extent (drop start text) ≡ span (drop start text) + suc (span cs + extent (drop end text)) =
+                extent-leading (drop start text) ∙ rw (rest-comma) (ap (λ n. span (drop start text) + n) (extent-comma cs ∙ ap suc (extent-leading cs ∙ rw rest-end))) in
+                let c : entry (line (drop start text)) ≡ counted (value (leading (drop start text))) (value (leading cs)) =
+                whole (line (drop start text)) (before-comma) (behind-comma ∙ l) (a .0) (b .0) in
+                rw c (three (a .1) (b .1) (omega (arith, s, o .1, a .2, b .2)))
+              where
+                extent-comma : (bs : List ℕ) → extent (comma ∷ bs) ≡ suc (extent bs)
+                extent-comma bs = comma-extent bs
+
+                three : {a a′ b b′ c c′ : ℕ} → a ≡ a′ → b ≡ b′ → c ≡ c′ → EntryLine a b c ≡ EntryLine a′ b′ c′
+                three p q r = cc
+
+-- ---- the ways out of an ending
+
+ends-LF : (b : ℕ) (bs : List ℕ) → b ≡ LF → (empty (line (b ∷ bs)) ≡ true) × (extent (b ∷ bs) ≡ 1)
+unfolding line extent
+ends-LF b bs h = (rw (eq-eqb b LF h), rw (eq-eqb b LF h))
+
+ends-CRLF : (b : ℕ) (bs : List ℕ) → b ≡ CR → getD bs 0 0 ≡ LF → (empty (line (b ∷ bs)) ≡ true) × (extent (b ∷ bs) ≡ 2)
+unfolding line extent
+ends-CRLF b [] h k = let z : _≡_ {A = ℕ} 0 LF = k in absurd (omega arith)
+ends-CRLF b (c ∷ cs) h k = (rw (h, k), rw (h, k))
+
+no-end : (b : ℕ) (bs : List ℕ) → (b ≡ LF → ⊥) → endingCR b bs ≡ false → empty (line (b ∷ bs)) ≡ false
+unfolding line
+no-end b bs h k = rw (ne-eqb b LF h, k)
+
+module _ (text : List ℕ) (i : ℕ) where
+  pub ending-past : length text ≤ i → At i ≡ endingAt text i
+  unfolding line extent
+  ending-past h = rw (drop-of-length-le text h) (ap At (omega arith))
+
+  module _ (h : i < length text) where
+    ended : {n : ℕ} → (empty (line (getD text i 0 ∷ drop (suc i) text)) ≡ true) × (extent (getD text i 0 ∷ drop (suc i) text) ≡ n) → At (i + n) ≡ endingAt text i
+    ended {n} (e, q) = rw (drop-cons text i 0 h, e, q)
+
+    unended : empty (line (getD text i 0 ∷ drop (suc i) text)) ≡ false → Nothing ≡ endingAt text i
+    unended e = rw (drop-cons text i 0 h, e)
+
+    pub ending-LF : getD text i 0 ≡ LF → At (i + 1) ≡ endingAt text i
+    ending-LF e = ended (ends-LF _ _ e)
+
+    module _ (n : getD text i 0 ≡ LF → ⊥) where
+      pub ending-other : (getD text i 0 ≡ CR → ⊥) → Nothing ≡ endingAt text i
+      ending-other c = unended (no-end _ _ n (rw (ne-eqb (getD text i 0) CR c)))
+
+      after : getD (drop (suc i) text) 0 0 ≡ getD text (i + 1) 0
+      after = rw (getD-drop (suc i) text 0 0, add-zero, add-one i)
+
+      module _ (c : getD text i 0 ≡ CR) where
+        pub ending-CR : length text ≤ i + 1 → Nothing ≡ endingAt text i
+        ending-CR l =
+            let k : drop (suc i) text ≡ [] = drop-of-length-le text {i = suc i} (omega arith) in
+            unended (no-end _ _ n (rw k (and-false (eqb (getD text i 0) CR))))
+
+        pub ending-CR-other : (getD text (i + 1) 0 ≡ LF → ⊥) → Nothing ≡ endingAt text i
+        ending-CR-other l = unended (no-end _ _ n (rw (after, ne-eqb (getD text (i + 1) 0) LF l) (and-false (eqb (getD text i 0) CR))))
+
+        pub ending-CRLF : getD text (i + 1) 0 ≡ LF → At (i + 2) ≡ endingAt text i
+        ending-CRLF l = ended (ends-CRLF _ _ c (after ∙ l))

@@ -1,0 +1,4 @@
+pub mod Text
+pub mod Counts
+pub mod Scan
+pub mod Worked

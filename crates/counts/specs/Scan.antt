@@ -1,0 +1,125 @@
+-- The text as the code reads it: numbers clamped, lines by positions, new measures in one slot for each lift.
+use Prim.Native.Nat.{ℕ, suc, _+_, _*_, _-_, _≤_, _<_}
+use mathlib.Core.Path.{_≡_}
+use mathlib.Core.Bool.{Bool, true, false, cond}
+use mathlib.Core.List.{List, [], _∷_, map}
+use lib.Dec.{eqb, ltb}
+use lib.ListN.{length, getD, take, drop}
+use Rattle.sheet.specs.Sheet.{largestSum, Lift, newKind, placeOf, placeWord}
+use Rattle.sheet.specs.Reading.{numbered}
+use Rattle.sheet.specs.declared.Found.{Found}
+use Rattle.sheet.specs.declared.Found.the-variants.{At, Nothing}
+use Rattle.counts.specs.Text.{LF, endingCR, isDigit, value, empty, isNumber, Entry, counted, malformed, entry}
+use Rattle.counts.specs.Counts.{Count, hundreds, remeasured, among, Gathering, stopped, gathered}
+use Rattle.counts.specs.declared.Digits.{Digits}
+use Rattle.counts.specs.declared.Number.{Number}
+use Rattle.counts.specs.declared.Number.the-variants.{Is, Not}
+use Rattle.counts.specs.declared.Line.{Line}
+use Rattle.counts.specs.declared.Line.the-variants.{Entry as EntryLine, Malformed}
+use Rattle.counts.specs.declared.Lines.{Lines}
+use Rattle.counts.specs.declared.Lines.the-variants.{Form, Lift as AboutLift, All}
+
+-- ---- numbers
+
+-- one above the largest number that a line may have
+abbrev pub cap : ℕ
+cap = 268435456
+
+abbrev pub clamp : ℕ → ℕ
+clamp v = cond (ltb cap v) cap v
+
+-- how many digits begin some bytes, and those digits
+unfoldable pub span : List ℕ → ℕ
+span [] = 0
+span (b ∷ bs) = cond (isDigit b) (suc (span bs)) 0
+
+abbrev pub leading : List ℕ → List ℕ
+leading bs = take (span bs) bs
+
+abbrev pub digitsAt : List ℕ → ℕ → Digits
+digitsAt text i = record { value = clamp (value (leading (drop i text))); next = i + span (drop i text) }
+
+abbrev pub pickNumber : Bool → Number → Number → Number
+pickNumber true a b = a
+pickNumber false a b = b
+
+-- the number whose digits begin at a position
+abbrev pub numberAt : ℕ → List ℕ → ℕ → Number
+numberAt limit text i = pickNumber (isNumber limit (leading (drop i text))) (Is (value (leading (drop i text))) (i + span (drop i text))) Not
+
+-- ---- lines
+
+-- the first line of a text without its ending, and how long it is with it
+unfoldable pub line : List ℕ → List ℕ
+line [] = []
+line (b ∷ bs) = cond (eqb b LF) [] (cond (endingCR b bs) (line bs) (b ∷ line bs))
+
+unfoldable pub extent : List ℕ → ℕ
+extent [] = 0
+extent (b ∷ bs) = cond (eqb b LF) 1 (suc (extent bs))
+
+abbrev pub pickFound : Bool → Found → Found → Found
+pickFound true a b = a
+pickFound false a b = b
+
+-- what is behind the ending at a position, if there is one
+abbrev pub endingAt : List ℕ → ℕ → Found
+endingAt text i = pickFound (empty (line (drop i text))) (At (i + extent (drop i text))) Nothing
+
+abbrev pub lineOf : Entry → ℕ → Line
+lineOf (counted n c) next = EntryLine n c next
+lineOf malformed next = Malformed
+
+-- the line at a position
+abbrev pub lineAt : List ℕ → ℕ → Line
+lineAt text i = lineOf (entry (line (drop i text))) (i + extent (drop i text))
+
+-- ---- lifts
+
+-- numbers that rise, above a number
+unfoldable pub Rising : ℕ → List ℕ → Type 0
+Rising n [] = Unit {0}
+Rising n (m ∷ ms) = (n < m) × Rising m ms
+
+-- where a number stands in a list, if it does
+abbrev pub Located : List ℕ → ℕ → Found → Type 0
+Located ns n (At k) = (k < length ns) × (getD ns k 0 ≡ n)
+Located ns n Nothing = among n ns ≡ false
+
+-- a lift's slot: 0 without a line, else one more than its new measure
+unfoldable pub slot : List Count → ℕ → ℕ
+slot [] n = 0
+slot (c ∷ cs) n = cond (eqb (c .lift) n) (hundreds (c .count) + 1) (slot cs n)
+
+-- the slots of the lifts with these numbers
+abbrev pub slots : List ℕ → List Count → List ℕ
+slots ns cs = map (slot cs) ns
+
+-- lines that were all taken: how many, and the slots that they leave
+pub record AllTaken (ns : List ℕ) (o : Gathering) (n : ℕ) (measures : List ℕ) : Type 0 where
+  pub counts : List Count
+  pub is : o ≡ gathered counts
+  pub many : n ≡ length counts
+  pub filled : measures ≡ slots ns counts
+  pub small : (k : ℕ) → getD measures k 0 ≤ largestSum + 1
+
+-- what the answer to the lines says
+abbrev pub Tells : List ℕ → Gathering → Lines → List ℕ → Type 0
+Tells ns o (Form i) measures = o ≡ stopped (numbered 14 i)
+Tells ns o (AboutLift i) measures = o ≡ stopped (numbered 15 i)
+Tells ns o (All n) measures = AllTaken ns o n measures
+
+-- ---- the sheet
+
+-- a new place's word with the measure of a slot
+abbrev pub wordWith : ℕ → ℕ → ℕ
+wordWith w v = cond (eqb v 0) w (placeWord newKind (record { round = placeOf w .round; measure = v - 1 }))
+
+-- a lift with the measure of a slot
+abbrev pub liftWith : Lift → ℕ → Lift
+liftWith l v = cond (eqb v 0) l (remeasured l (v - 1))
+
+-- lifts with the measures of slots
+unfoldable pub liftsWith : List Lift → List ℕ → List Lift
+liftsWith [] vs = []
+liftsWith (l ∷ ls) vs = liftWith l (getD vs 0 0) ∷ liftsWith ls (drop 1 vs)
