@@ -14,12 +14,13 @@ use Rattle.laws.specs.Sum.{indicator}
 use Rattle.round.specs.Slices.{lift, lifts, Level}
 use Rattle.round.specs.Share.{Initial, here, elsewhere}
 use Rattle.sheet.specs.Sheet.{mostRounds, Lift}
-use Rattle.sheet.specs.Rounds.{those, sends, donors}
+use Rattle.sheet.specs.Rounds.{placeAt, those, sends, donors}
 use Rattle.sheet.specs.Tables.{bits, first}
 use Rattle.sheet.proofs.Those.{those-ext, those-head, from, Sought, sought-here, sought-end}
 use Rattle.selection.specs.Choice.{donorNumber, further, heldAt, heldAmong}
 use Rattle.panel.specs.Slices.{bitAt, sendersOf, numberOf, heldPlace, heldBy, roundOf, Even}
 use Rattle.panel.specs.declared.Senders.the-variants.{None, One, Two}
+use Rattle.sheet.specs.declared.Side.the-variants.{New}
 use Rattle.sheet.specs.declared.Found.{Found}
 use Rattle.sheet.specs.declared.Found.the-variants.{At, Nothing}
 
@@ -87,8 +88,8 @@ number-of (d ∷ e ∷ ds) t = refl
 
 -- its lifts with their donors
 pub roundOf-of : (ds : List ℕ) (us : List Lift)
-    → roundOf (sendersOf ds) (map (λ l. l .old .round) us) (map (λ l. l .old .measure) us) (map (λ l. l .new .measure) us)
-    ≡ map (λ l. lift (l .old .measure) (donorNumber ds (l .old .round)) (l .new .measure)) us
+    → roundOf (sendersOf ds) (map (λ l. l .old .round) us) (map (λ l. l .old .measure) us) (map (λ l. placeAt New l .measure) us)
+    ≡ map (λ l. lift (l .old .measure) (donorNumber ds (l .old .round)) (placeAt New l .measure)) us
 unfolding lifts
 roundOf-of ds [] = refl
 roundOf-of ds (l ∷ us) = rw (number-of ds (l .old .round), roundOf-of ds us)

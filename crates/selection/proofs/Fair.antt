@@ -19,7 +19,7 @@ use Rattle.round.specs.declared.Donors.the-variants.{One}
 use Rattle.round.proofs.Shares.{shares as round-shares}
 use Rattle.round.proofs.Keeping.{best-≈, keeps as round-keeps}
 use Rattle.sheet.specs.Sheet.{mostRounds, Lift, lifts, sheetOf}
-use Rattle.sheet.specs.Rounds.{named, inUse, sumOf, donors, ofRound}
+use Rattle.sheet.specs.Rounds.{placeAt, named, inUse, sumOf, donors, ofRound}
 use Rattle.sheet.specs.Law.{Fitting}
 use Rattle.sheet.specs.declared.Side.the-variants.{Old, New}
 use Rattle.sheet.proofs.Those.{those-in}
@@ -40,21 +40,21 @@ plan-marked m r ls = rw (donorsOf-marked m r ls, liftsOf-marked m r ls)
 
 length-lifts : (r : ℕ) (ls : List Lift) → length (liftsOf r ls) ≡ length (ofRound r ls)
 unfolding liftsOf
-length-lifts r ls = length-map (ofRound r ls) (λ l. lift (l .old .measure) (donorNumber (donors r ls) (l .old .round)) (l .new .measure))
+length-lifts r ls = length-map (ofRound r ls) (λ l. lift (l .old .measure) (donorNumber (donors r ls) (l .old .round)) (placeAt New l .measure))
 
 -- the lift at a place has the same new measure for the round
-new-at : (r : ℕ) (ls : List Lift) (j : ℕ) → roundLiftAt (liftsOf r ls) j .new ≡ liftAt r ls j .new .measure
+new-at : (r : ℕ) (ls : List Lift) (j : ℕ) → roundLiftAt (liftsOf r ls) j .new ≡ placeAt New (liftAt r ls j) .measure
 unfolding liftsOf liftAt
 new-at r ls j = go (ofRound r ls) j
   where
     go : (us : List Lift) (j : ℕ)
-        → roundLiftAt (map (λ l. lift (l .old .measure) (donorNumber (donors r ls) (l .old .round)) (l .new .measure)) us) j .new ≡ getD us j nobody .new .measure
+        → roundLiftAt (map (λ l. lift (l .old .measure) (donorNumber (donors r ls) (l .old .round)) (placeAt New l .measure)) us) j .new ≡ placeAt New (getD us j nobody) .measure
     go [] j = refl
     go (u ∷ us) zero = refl
     go (u ∷ us) (suc j) = go us j
 
 module _ {ws : List ℕ} (f : Fitting ws) {r : ℕ} (low : 1 ≤ r) (high : r ≤ mostRounds) (some : 0 < named New r (lifts ws)) where
-  fair-shares : (j : ℕ) → j < length (ofRound r (lifts ws)) → share (lifts ws) r j ≈ liftAt r (lifts ws) j .new .measure // sumOf New r (lifts ws)
+  fair-shares : (j : ℕ) → j < length (ofRound r (lifts ws)) → share (lifts ws) r j ≈ placeAt New (liftAt r (lifts ws) j) .measure // sumOf New r (lifts ws)
   unfolding share roundShare
   fair-shares j l =
       let ls = lifts ws in

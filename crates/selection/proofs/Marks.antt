@@ -64,7 +64,7 @@ module _ (m : List Lift) where
   unfolding liftsOf marked
   liftsOf-marked r ls =
       rw (donors-marked r ls, ofRound-marked r ls)
-      (map-map (λ l. lift (l .old .measure) (donorNumber (donors r ls) (l .old .round)) (l .new .measure)) (holding m) (ofRound r ls))
+      (map-map (λ l. lift (l .old .measure) (donorNumber (donors r ls) (l .old .round)) (placeAt New l .measure)) (holding m) (ofRound r ls))
 
   pub donorsOf-marked : (r : ℕ) (ls : List Lift) → donorsOf r (marked m ls) ≡ donorsOf r ls
   unfolding donorsOf

@@ -15,7 +15,7 @@ use Rattle.round.specs.declared.Donors.the-variants.{One, Two}
 use Rattle.round.specs.Slices.{lift, Stands, Bounded, SumsBounded}
 use Rattle.round.specs.declared.Lift.{Lift as RoundLift}
 use Rattle.sheet.specs.Sheet.{mostRounds, largestSum, Lift, lifts}
-use Rattle.sheet.specs.Rounds.{named, sumOf, sends, donors, ofRound}
+use Rattle.sheet.specs.Rounds.{placeAt, named, sumOf, sends, donors, ofRound}
 use Rattle.sheet.specs.Law.{Fitting}
 use Rattle.sheet.specs.declared.Side.the-variants.{Old, New}
 use Rattle.sheet.proofs.Those.{those-head}
@@ -25,7 +25,7 @@ use Rattle.selection.specs.Choice.{donorNumber, withSums, donorsOf, lift
 
 -- the round of a list of lifts, with donors numbered by g
 abbrev roundBy : (ℕ → ℕ) → ℕ → List Lift → List RoundLift
-roundBy g r ls = map (λ l. lift (l .old .measure) (g (l .old .round)) (l .new .measure)) (ofRound r ls)
+roundBy g r ls = map (λ l. lift (l .old .measure) (g (l .old .round)) (placeAt New l .measure)) (ofRound r ls)
 
 S-sum : (g : ℕ → ℕ) (r : ℕ) (ls : List Lift) → S (roundBy g r ls) ≡ sumOf New r ls
 unfolding S total totalBy ofRound
@@ -33,8 +33,8 @@ S-sum g r [] = refl
 S-sum g r (l ∷ ls) = go (eqb (l .new .round) r) (S-sum g r ls)
   where
     go : (t : Bool) → S (roundBy g r ls) ≡ sumOf New r ls
-        → S (map (λ l. lift (l .old .measure) (g (l .old .round)) (l .new .measure)) (cond t (l ∷ ofRound r ls) (ofRound r ls))) ≡ cond t (l .new .measure) 0 + sumOf New r ls
-    go true e = ap (λ x. l .new .measure + x) e
+        → S (map (λ l. lift (l .old .measure) (g (l .old .round)) (placeAt New l .measure)) (cond t (l ∷ ofRound r ls) (ofRound r ls))) ≡ cond t (placeAt New l .measure) 0 + sumOf New r ls
+    go true e = ap (λ x. placeAt New l .measure + x) e
     go false e = omega arith
 
 -- what old round d sends to new round r
@@ -49,7 +49,7 @@ U-sum g k d h r [] = refl
 U-sum g k d h r (l ∷ ls) = go (eqb (l .new .round) r) (U-sum g k d h r ls)
   where
     go : (t : Bool) → U k (roundBy g r ls) ≡ sentTo d r ls
-        → U k (map (λ l. lift (l .old .measure) (g (l .old .round)) (l .new .measure)) (cond t (l ∷ ofRound r ls) (ofRound r ls))) ≡ cond t (cond (eqb (l .old .round) d) (l .old .measure) 0) 0 + sentTo d r ls
+        → U k (map (λ l. lift (l .old .measure) (g (l .old .round)) (placeAt New l .measure)) (cond t (l ∷ ofRound r ls) (ofRound r ls))) ≡ cond t (cond (eqb (l .old .round) d) (l .old .measure) 0) 0 + sentTo d r ls
     go true e = ap₂ (λ x y. cond x (l .old .measure) 0 + y) (h (l .old .round)) e
     go false e = omega arith
 
@@ -201,5 +201,5 @@ module _ {ws : List ℕ} (f : Fitting ws) {r : ℕ} (low : 1 ≤ r) (high : r �
   pub round-stands : Stands (donorsOf r (lifts ws)) (heldIn r (lifts ws)) (length (liftsOf r (lifts ws)))
   unfolding donorsOf heldIn liftsOf
   round-stands =
-      rw (length-map (ofRound r (lifts ws)) (λ l. lift (l .old .measure) (donorNumber (donors r (lifts ws)) (l .old .round)) (l .new .measure)))
+      rw (length-map (ofRound r (lifts ws)) (λ l. lift (l .old .measure) (donorNumber (donors r (lifts ws)) (l .old .round)) (placeAt New l .measure)))
       (stands-among (donors r (lifts ws)) senders (ofRound r (lifts ws)))

@@ -16,9 +16,9 @@ use Rattle.round.specs.Slices.{lift}
 use Rattle.round.specs.Share.{Initial, here, elsewhere}
 use Rattle.round.specs.declared.Lift.{Lift as RoundLift}
 use Rattle.sheet.specs.Sheet.{Lift}
-use Rattle.sheet.specs.Rounds.{sumOf, ofRound}
+use Rattle.sheet.specs.Rounds.{placeAt, sumOf, ofRound}
 use Rattle.sheet.specs.Law.{Listed}
-use Rattle.sheet.specs.declared.Side.the-variants.{Old}
+use Rattle.sheet.specs.declared.Side.the-variants.{Old, New}
 use Rattle.selection.specs.Choice.{further, heldAt}
 use Rattle.selection.specs.Initial.{names, marked}
 use Rattle.selection.proofs.Means.{nth, brought, mean, brought-≈, mean-≈}
@@ -86,7 +86,7 @@ stands-later t l u us h = rw (ne-eqb (l .number) (u .number) h)
 
 -- lifts as a round has them, with a number for each old round
 abbrev pub keyed : (ℕ → ℕ) → List Lift → List RoundLift
-keyed key us = map (λ l. lift (l .old .measure) (key (l .old .round)) (l .new .measure)) us
+keyed key us = map (λ l. lift (l .old .measure) (key (l .old .round)) (placeAt New l .measure)) us
 
 -- the mean over the initial selections of donor k, if its lifts measure S and weigh by T
 abbrev pub placed : ℕ → ℕ → ℕ → List RoundLift → (Initial → Fraction) → Fraction

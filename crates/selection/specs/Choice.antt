@@ -18,7 +18,7 @@ use Rattle.round.specs.declared.Held.the-variants.{Neither}
 use Rattle.round.specs.declared.Lift.{Lift as RoundLift}
 use Rattle.sheet.specs.Sheet.{Lift, lifts, word}
 use Rattle.sheet.specs.Reading.{Numbered, numbered}
-use Rattle.sheet.specs.Rounds.{inUse, sumOf, donors, ofRound}
+use Rattle.sheet.specs.Rounds.{placeAt, inUse, sumOf, donors, ofRound}
 use Rattle.sheet.specs.Refusal.{Verdict, refused, fits, verdict}
 use Rattle.sheet.specs.Reply.{Reply, replied, ofRefusal, unlessRefused}
 use Rattle.sheet.specs.declared.Side.the-variants.{Old, New}
@@ -43,7 +43,7 @@ donorsOf r ls = withSums (donors r ls) ls
 
 -- the lifts of new round r, with their old and new measures and their donors
 unfoldable pub liftsOf : ℕ → List Lift → List RoundLift
-liftsOf r ls = map (λ l. lift (l .old .measure) (donorNumber (donors r ls) (l .old .round)) (l .new .measure)) (ofRound r ls)
+liftsOf r ls = map (λ l. lift (l .old .measure) (donorNumber (donors r ls) (l .old .round)) (placeAt New l .measure)) (ofRound r ls)
 
 -- one place further
 abbrev pub further : Initial → Initial

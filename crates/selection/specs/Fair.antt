@@ -11,7 +11,7 @@ use Rattle.round.specs.Choice.{Selection, outcome}
 use Rattle.round.specs.Share.{chooses}
 use Rattle.round.specs.Keep.{Best}
 use Rattle.sheet.specs.Sheet.{Lift, lifts, sheetOf}
-use Rattle.sheet.specs.Rounds.{inUse, sumOf, donors, ofRound}
+use Rattle.sheet.specs.Rounds.{placeAt, inUse, sumOf, donors, ofRound}
 use Rattle.sheet.specs.Refusal.{fits, verdict}
 use Rattle.sheet.specs.Reply.{replied}
 use Rattle.sheet.specs.Law.{Fitting}
@@ -36,7 +36,7 @@ draws (short r) = []
 -- what is proved of every fitting sheet, with its lifts ls, and every one of its new rounds
 pub record FairRound (ls : List Lift) (r : ℕ) : Type 0 where
   -- "For each lift of the round, b = 0 included, the ways that have it as their lift weigh together exactly b over S."
-  pub shares : (j : ℕ) → j < length (ofRound r ls) → share ls r j ≈ liftAt r ls j .new .measure // sumOf New r ls
+  pub shares : (j : ℕ) → j < length (ofRound r ls) → share ls r j ≈ placeAt New (liftAt r ls j) .measure // sumOf New r ls
   -- "the output gives it for this round whenever the sheet so marked is run, not refused, and the round's draws have those values": the
   -- pair written for this round, the i-th, has the path's lift and outcome
   pub runs : (m : List Lift) → List·Memᴰ m (selections ls) → (p : Path Selection) → List·Memᴰ p (paths (planOf r (marked m ls)))

@@ -8,7 +8,7 @@ use lib.Dec.{eqb, ltb}
 use lib.ListN.{length}
 use Rattle.round.specs.Worked.{same}
 use Rattle.sheet.specs.Sheet.{Lift, sheetOf}
-use Rattle.sheet.specs.Rounds.{sumOf}
+use Rattle.sheet.specs.Rounds.{placeAt, sumOf}
 use Rattle.sheet.specs.Reply.{Reply, numbers}
 use Rattle.sheet.specs.Worked.{lift, example}
 use Rattle.sheet.specs.declared.Side.the-variants.{New}
@@ -111,7 +111,7 @@ small = lift 1 1 1 1 2 true ∷ lift 2 2 1 1 1 false ∷ lift 3 1 1 2 1 false �
 -- whether the lift at place j of round r has exactly b over S, multiplied out
 abbrev pub rightShare : List Lift → ℕ → ℕ → Bool
 rightShare ls r j =
-    eqb (share ls r j .num * sumOf New r ls) (liftAt r ls j .new .measure * share ls r j .den) && ltb 0 (share ls r j .den)
+    eqb (share ls r j .num * sumOf New r ls) (placeAt New (liftAt r ls j) .measure * share ls r j .den) && ltb 0 (share ls r j .den)
 
 -- every lift of both new rounds
 abbrev pub rightShares : Bool
