@@ -1,4 +1,4 @@
--- The rounds of a fitting sheet, lent by field, are those of the definitions; and the choices gathered round by round are the panel's.
+-- The rounds of lifts that fit, lent by field, are those of the definitions; and the choices gathered round by round are the panel's.
 use Prim.Native.Nat.{ℕ, zero, suc, _+_, _-_, _^_, _≤_, _<_}
 use mathlib.Core.Path.{_≡_, refl, sym, ap, ap₂, subst, _∙_}
 use mathlib.Core.Bool.{Bool, true, false, cond}
@@ -18,10 +18,10 @@ use Rattle.round.specs.declared.Donors.{Donors}
 use Rattle.round.specs.declared.Held.{Held as RoundHeld}
 use Rattle.round.specs.declared.Selected.{Selected}
 use Rattle.round.specs.declared.Selected.the-variants.{At as AtPlace, Short}
-use Rattle.sheet.specs.Sheet.{mostRounds, Lift, lifts}
+use Rattle.sheet.specs.Sheet.{mostRounds, Lift}
 use Rattle.sheet.specs.Rounds.{those, named, sumOf, donors, ofRound}
 use Rattle.sheet.specs.Tables.{fieldOf, tallyOf, below, startsOf, ByRound, donorsOf as donorBits}
-use Rattle.sheet.specs.Law.{Fitting}
+use Rattle.sheet.specs.Law.{Fit}
 use Rattle.sheet.specs.declared.Side.the-variants.{Old, New}
 use Rattle.sheet.specs.declared.Field.the-variants.{Number, Round, Measure, Held}
 use Rattle.sheet.proofs.Tables.{getD-tabulate}
@@ -56,84 +56,84 @@ slice-part (suc a) zero l = rw (zero-sub (suc a), drop-nil) refl
 slice-part (suc a) (suc e) [] = take-nil (suc e - suc a)
 slice-part (suc a) (suc e) (x ∷ l) = rw (suc-sub-suc e a) (slice-part a e l)
 
--- what is lent is the sheet's
-pub record Lends (sheet : List ℕ) (x : Lent) : Type 0 where
-  pub fitting : Fitting sheet
-  pub numbers : ByRound (fieldOf Number) (lifts sheet) (x .numbers)
-  pub from : ByRound (fieldOf (Round Old)) (lifts sheet) (x .from)
-  pub old : ByRound (fieldOf (Measure Old)) (lifts sheet) (x .old)
-  pub new : ByRound (fieldOf (Measure New)) (lifts sheet) (x .new)
-  pub held : ByRound (fieldOf Held) (lifts sheet) (x .held)
-  pub starts : x .starts ≡ startsOf (lifts sheet)
-  pub sums : x .sums ≡ tallyOf Old (Measure Old) (lifts sheet)
-  pub low : x .low ≡ donorBits 0 (lifts sheet)
-  pub high : x .high ≡ donorBits 64 (lifts sheet)
+-- what is lent is that of lifts that fit
+pub record Lends (ls : List Lift) (x : Lent) : Type 0 where
+  pub fit : Fit ls
+  pub numbers : ByRound (fieldOf Number) ls (x .numbers)
+  pub from : ByRound (fieldOf (Round Old)) ls (x .from)
+  pub old : ByRound (fieldOf (Measure Old)) ls (x .old)
+  pub new : ByRound (fieldOf (Measure New)) ls (x .new)
+  pub held : ByRound (fieldOf Held) ls (x .held)
+  pub starts : x .starts ≡ startsOf ls
+  pub sums : x .sums ≡ tallyOf Old (Measure Old) ls
+  pub low : x .low ≡ donorBits 0 ls
+  pub high : x .high ≡ donorBits 64 ls
 
-module _ {sheet : List ℕ} {x : Lent} (d : Lends sheet x) where
+module _ {ls : List Lift} {x : Lent} (d : Lends ls x) where
   -- where rounds begin
-  begin : (r : ℕ) → r ≤ mostRounds + 1 → begins x r ≡ below r (lifts sheet)
-  begin r h = ap (λ t. getD t r 0) (d .starts) ∙ getD-tabulate (mostRounds + 2) (λ t. below t (lifts sheet)) r (omega arith)
+  begin : (r : ℕ) → r ≤ mostRounds + 1 → begins x r ≡ below r ls
+  begin r h = ap (λ t. getD t r 0) (d .starts) ∙ getD-tabulate (mostRounds + 2) (λ t. below t ls) r (omega arith)
 
   -- a round's part of a field
-  part : {f : Lift → ℕ} {xs : List ℕ} → ByRound f (lifts sheet) xs → (r : ℕ) → r ≤ mostRounds → partOf x r xs ≡ map f (ofRound r (lifts sheet))
+  part : {f : Lift → ℕ} {xs : List ℕ} → ByRound f ls xs → (r : ℕ) → r ≤ mostRounds → partOf x r xs ≡ map f (ofRound r ls)
   part {f} {xs} b r h =
-      slice-part (begins x r) (begins x (r + 1)) xs ∙ ap₂ (λ a e. slice a e xs) (begin r (omega arith)) (begin (r + 1) (omega arith) ∙ ap (λ t. below t (lifts sheet)) (add-one r)) ∙ b .parts r h
+      slice-part (begins x r) (begins x (r + 1)) xs ∙ ap₂ (λ a e. slice a e xs) (begin r (omega arith)) (begin (r + 1) (omega arith) ∙ ap (λ t. below t ls) (add-one r)) ∙ b .parts r h
 
   module _ (r : ℕ) (low : 1 ≤ r) (high : r ≤ mostRounds) where
-    senders-are : sendersIn x r ≡ sendersOf (donors r (lifts sheet))
+    senders-are : sendersIn x r ≡ sendersOf (donors r ls)
     senders-are =
         ap sendersOf
-        (senders-donors r (lifts sheet) (ap (λ t. getD t r 0) (d .low) ∙ getD-tabulate (mostRounds + 1) _ r (omega arith))
+        (senders-donors r ls (ap (λ t. getD t r 0) (d .low) ∙ getD-tabulate (mostRounds + 1) _ r (omega arith))
         (ap (λ t. getD t r 0) (d .high) ∙ getD-tabulate (mostRounds + 1) _ r (omega arith)))
 
-    sum-is : (t : ℕ) → t ≤ mostRounds → getD (x .sums) t 0 ≡ sumOf Old t (lifts sheet)
+    sum-is : (t : ℕ) → t ≤ mostRounds → getD (x .sums) t 0 ≡ sumOf Old t ls
     sum-is t h = ap (λ s. getD s t 0) (d .sums) ∙ getD-tabulate (mostRounds + 1) _ t (omega arith)
 
-    with-table : (ds : List ℕ) → Senders r (lifts sheet) ds → withTable (sendersOf ds) (x .sums) ≡ withSums ds (lifts sheet)
+    with-table : (ds : List ℕ) → Senders r ls ds → withTable (sendersOf ds) (x .sums) ≡ withSums ds ls
     with-table [] none = refl
     with-table (t ∷ []) (one s l h) = rw (sum-is t h)
     with-table (t ∷ u ∷ []) (two s v l m h) = rw (sum-is t (omega arith), sum-is u h)
 
-    pub donors-are : donorsIn x r ≡ donorsOf r (lifts sheet)
+    pub donors-are : donorsIn x r ≡ donorsOf r ls
     unfolding donorsOf
-    donors-are = ap (λ s. withTable s (x .sums)) senders-are ∙ with-table (donors r (lifts sheet)) (senders (d .fitting) low high)
+    donors-are = ap (λ s. withTable s (x .sums)) senders-are ∙ with-table (donors r ls) (senders (d .fit) low high)
 
-    pub lifts-are : liftsIn x r ≡ liftsOf r (lifts sheet)
+    pub lifts-are : liftsIn x r ≡ liftsOf r ls
     unfolding liftsOf
-    lifts-are = rw (senders-are, part (d .from) r high, part (d .old) r high, part (d .new) r high) (roundOf-of (donors r (lifts sheet)) (ofRound r (lifts sheet)))
+    lifts-are = rw (senders-are, part (d .from) r high, part (d .old) r high, part (d .new) r high) (roundOf-of (donors r ls) (ofRound r ls))
 
-    pub marks-are : marksIn x r ≡ heldIn r (lifts sheet)
+    pub marks-are : marksIn x r ≡ heldIn r ls
     unfolding heldIn
-    marks-are = rw (senders-are, part (d .from) r high, part (d .held) r high) (heldBy-of (donors r (lifts sheet)) (ofRound r (lifts sheet)))
+    marks-are = rw (senders-are, part (d .from) r high, part (d .held) r high) (heldBy-of (donors r ls) (ofRound r ls))
 
     -- it has lifts exactly if it is in use
-    ends : begins x (r + 1) ≡ begins x r + named New r (lifts sheet)
+    ends : begins x (r + 1) ≡ begins x r + named New r ls
     ends =
-        begin (r + 1) (omega arith) ∙ ap (λ t. below t (lifts sheet)) (add-one r) ∙ sym (below-suc r (lifts sheet))
-        ∙ ap₂ _+_ (sym (begin r (omega arith))) (sym (named-length r (lifts sheet)))
+        begin (r + 1) (omega arith) ∙ ap (λ t. below t ls) (add-one r) ∙ sym (below-suc r ls)
+        ∙ ap₂ _+_ (sym (begin r (omega arith))) (sym (named-length r ls))
 
-    passed : ltb 0 (named New r (lifts sheet)) ≡ false → eqb (begins x r) (begins x (r + 1)) ≡ true
-    passed e = eq-eqb (begins x r) (begins x (r + 1)) (omega (arith, ends, ltb-false 0 (named New r (lifts sheet)) e))
+    passed : ltb 0 (named New r ls) ≡ false → eqb (begins x r) (begins x (r + 1)) ≡ true
+    passed e = eq-eqb (begins x r) (begins x (r + 1)) (omega (arith, ends, ltb-false 0 (named New r ls) e))
 
-    used : ltb 0 (named New r (lifts sheet)) ≡ true → eqb (begins x r) (begins x (r + 1)) ≡ false
-    used e = ne-eqb (begins x r) (begins x (r + 1)) (λ q. omega (arith, ends, ltb-true 0 (named New r (lifts sheet)) e))
+    used : ltb 0 (named New r ls) ≡ true → eqb (begins x r) (begins x (r + 1)) ≡ false
+    used e = ne-eqb (begins x r) (begins x (r + 1)) (λ q. omega (arith, ends, ltb-true 0 (named New r ls) e))
 
     callable : begins x r < begins x (r + 1) → Callable (donorsIn x r) (liftsIn x r) (marksIn x r)
     callable h =
         rw (donors-are, lifts-are, marks-are)
-        (record { fitting = round-fits (d .fitting) low high (omega (arith, ends)); bounded = round-bounded (d .fitting) low high; stands = round-stands (d .fitting) low high })
+        (record { fitting = round-fits (d .fit) low high (omega (arith, ends)); bounded = round-bounded (d .fit) low high; stands = round-stands (d .fit) low high })
 
     module _ (ws : List ℕ) (p : Picks) where
-      stepped-passed : ltb 0 (named New r (lifts sheet)) ≡ false → stepped x ws p r ≡ p
+      stepped-passed : ltb 0 (named New r ls) ≡ false → stepped x ws p r ≡ p
       unfolding stepped
       stepped-passed e = rw (passed e)
 
-      stepped-used : ltb 0 (named New r (lifts sheet)) ≡ true
-          → stepped x ws p r ≡ after p r (map (fieldOf Number) (ofRound r (lifts sheet))) (answer (heldIn r (lifts sheet)) (run largest ws (p .next) (planOf r (lifts sheet))))
+      stepped-used : ltb 0 (named New r ls) ≡ true
+          → stepped x ws p r ≡ after p r (map (fieldOf Number) (ofRound r ls)) (answer (heldIn r ls) (run largest ws (p .next) (planOf r ls)))
       unfolding stepped planOf
       stepped-used e = rw (used e, donors-are, lifts-are, marks-are, part (d .numbers) r high)
 
-  pub ready : {n : ℕ} → length (lifts sheet) ≡ n → length (x .numbers) ≡ n → length (x .from) ≡ n → length (x .old) ≡ n → length (x .new) ≡ n → length (x .held) ≡ n
+  pub ready : {n : ℕ} → length ls ≡ n → length (x .numbers) ≡ n → length (x .from) ≡ n → length (x .old) ≡ n → length (x .new) ≡ n → length (x .held) ≡ n
       → Small (x .numbers) → Ready x
   ready e a b c f g small =
       record {
@@ -141,8 +141,8 @@ module _ {sheet : List ℕ} {x : Lent} (d : Lends sheet x) where
         old-long = c ∙ sym a;
         new-long = f ∙ sym a;
         held-long = g ∙ sym a;
-        rises = λ r h. rw (begin r (omega arith), begin (r + 1) (omega arith)) (below-mono r (r + 1) (lifts sheet) (omega arith));
-        inside = λ r h. rw (begin (r + 1) (omega arith), a, ← e) (below-le (r + 1) (lifts sheet));
+        rises = λ r h. rw (begin r (omega arith), begin (r + 1) (omega arith)) (below-mono r (r + 1) ls (omega arith));
+        inside = λ r h. rw (begin (r + 1) (omega arith), a, ← e) (below-le (r + 1) ls);
         callable = callable;
         small = small;
       }
@@ -193,25 +193,25 @@ module _ (ls : List Lift) (r : ℕ) (low : 1 ≤ r) (high : r ≤ mostRounds) (r
       (ih (cs ++ (c ∷ [])) next (picked p r (c .number) (c .outcome) next) (gathers-one cs from p g (omega arith) c next) (omega arith))
   gather-run cs from p g few ended = rw (ne-eqb r 0 (λ e. omega arith)) (low, refl)
 
-module _ {sheet : List ℕ} {x : Lent} (d : Lends sheet x) (ws : List ℕ) where
+module _ {ls : List Lift} {x : Lent} (d : Lends ls x) (ws : List ℕ) where
   gather : (n r : ℕ) → 1 ≤ r → r + n ≤ mostRounds + 1 → (cs : List Choice) (from : ℕ) (p : Picks) → Gathers cs from p → p .count < r
-      → Picked (prefixed cs (panelFrom (lifts sheet) ws from (those (λ t. ltb 0 (named New t (lifts sheet))) r n))) (steppedFrom x ws p r n)
+      → Picked (prefixed cs (panelFrom ls ws from (those (λ t. ltb 0 (named New t ls)) r n))) (steppedFrom x ws p r n)
   unfolding those steppedFrom panelFrom
   gather zero r low high cs from p g few = rw (append-nil cs) g
-  gather (suc n) r low high cs from p g few = go (ltb 0 (named New r (lifts sheet))) refl (λ cs from p g few. gather n (suc r) (omega arith) (omega arith) cs from p g few)
+  gather (suc n) r low high cs from p g few = go (ltb 0 (named New r ls)) refl (λ cs from p g few. gather n (suc r) (omega arith) (omega arith) cs from p g few)
     where
-      go : (t : Bool) → ltb 0 (named New r (lifts sheet)) ≡ t
-          → ((cs : List Choice) (from : ℕ) (p : Picks) → Gathers cs from p → p .count < suc r → Picked (prefixed cs (panelFrom (lifts sheet) ws from (those (λ t. ltb 0 (named New t (lifts sheet))) (suc r) n))) (steppedFrom x ws p (suc r) n))
-          → Picked (prefixed cs (panelFrom (lifts sheet) ws from (cond t (r ∷ those (λ t. ltb 0 (named New t (lifts sheet))) (suc r) n) (those (λ t. ltb 0 (named New t (lifts sheet))) (suc r) n)))) (goOn (stepped x ws p r) (λ q. steppedFrom x ws q (suc r) n))
+      go : (t : Bool) → ltb 0 (named New r ls) ≡ t
+          → ((cs : List Choice) (from : ℕ) (p : Picks) → Gathers cs from p → p .count < suc r → Picked (prefixed cs (panelFrom ls ws from (those (λ t. ltb 0 (named New t ls)) (suc r) n))) (steppedFrom x ws p (suc r) n))
+          → Picked (prefixed cs (panelFrom ls ws from (cond t (r ∷ those (λ t. ltb 0 (named New t ls)) (suc r) n) (those (λ t. ltb 0 (named New t ls)) (suc r) n)))) (goOn (stepped x ws p r) (λ q. steppedFrom x ws q (suc r) n))
       go true e ih =
           rw (stepped-used d r low (omega arith) ws p e, ← g .next)
-          (gather-run (lifts sheet) r low (omega arith) (λ next. panelFrom (lifts sheet) ws next (those (λ t. ltb 0 (named New t (lifts sheet))) (suc r) n)) (λ q. steppedFrom x ws q (suc r) n)
-          ih cs from p g few (run largest ws (p .next) (planOf r (lifts sheet))))
+          (gather-run ls r low (omega arith) (λ next. panelFrom ls ws next (those (λ t. ltb 0 (named New t ls)) (suc r) n)) (λ q. steppedFrom x ws q (suc r) n)
+          ih cs from p g few (run largest ws (p .next) (planOf r ls)))
       go false e ih = rw (stepped-passed d r low (omega arith) ws p e, eq-eqb (p .short) 0 (g .finished)) (ih cs from p g (omega arith))
 
-  pub gathered : (start : ℕ) → Picked (panel (lifts sheet) ws start) (steppedFrom x ws (noPicks start) 1 mostRounds)
+  pub gathered : (start : ℕ) → Picked (panel ls ws start) (steppedFrom x ws (noPicks start) 1 mostRounds)
   gathered start =
-      subst (λ q. Picked q (steppedFrom x ws (noPicks start) 1 mostRounds)) (prefixed-none (panel (lifts sheet) ws start))
+      subst (λ q. Picked q (steppedFrom x ws (noPicks start) 1 mostRounds)) (prefixed-none (panel ls ws start))
       (gather mostRounds 1 (omega arith) (omega arith) [] start (noPicks start) (record { count = refl; firsts = refl; seconds = refl; next = refl; finished = refl; long-firsts = refl; long-seconds = refl }) (omega arith))
 
 -- ---- the loop over the rounds

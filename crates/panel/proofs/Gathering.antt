@@ -15,7 +15,7 @@ use Rattle.sheet.specs.Tables.{fieldOf, below, ByRound}
 use Rattle.sheet.specs.Law.{Listed, Fitting}
 use Rattle.sheet.specs.declared.Field.the-variants.{Number}
 use Rattle.sheet.proofs.Placing.{below-zero}
-use Rattle.sheet.proofs.Trips.{read-theorem}
+use Rattle.sheet.proofs.Verdicts.{fit}
 use Rattle.panel.specs.Slices.{Lent, Small, Ready}
 use Rattle.panel.proofs.Choosing.{Lends, ready}
 
@@ -65,11 +65,11 @@ module _ (n : ℕ) {ls : List Lift} {ns : List ℕ} (d : Listed n ls) (b : ByRou
 
 -- a fitting sheet's lifts are no more than an array has places
 pub lifts-few : {sheet : List ℕ} {n : ℕ} → Fitting sheet × (n ≡ length (lifts sheet)) → n ≤ mostLifts
-lifts-few {sheet} (f, e) = omega (arith, read-theorem sheet (f .words) .listable .few)
+lifts-few (f, e) = omega (arith, fit f .listable .few)
 
 -- what is lent is ready if every field has as many numbers as there are lifts
-pub lends-ready : {sheet : List ℕ} {x : Lent} {n : ℕ} → Lends sheet x → n ≡ length (lifts sheet)
+pub lends-ready : {ls : List Lift} {x : Lent} {n : ℕ} → Lends ls x → n ≡ length ls
     → n ≡ length (x .numbers) → n ≡ length (x .from) → n ≡ length (x .old) → n ≡ length (x .new) → n ≡ length (x .held) → Ready x
-lends-ready {sheet} d e a b c f g =
+lends-ready d e a b c f g =
     ready d (sym e) (sym a) (sym b) (sym c) (sym f) (sym g)
-    (gathered-small 0 (read-theorem sheet (d .fitting .words) .listable .listed) (d .numbers) (sym a ∙ e))
+    (gathered-small 0 (d .fit .listable .listed) (d .numbers) (sym a ∙ e))

@@ -18,9 +18,9 @@ use Rattle.round.specs.declared.Held.{Held}
 use Rattle.round.specs.declared.Donors.the-variants.{One}
 use Rattle.round.proofs.Shares.{shares as round-shares}
 use Rattle.round.proofs.Keeping.{best-≈, keeps as round-keeps}
-use Rattle.sheet.specs.Sheet.{mostRounds, Lift, lifts, sheetOf}
+use Rattle.sheet.specs.Sheet.{mostRounds, Lift, sheetOf}
 use Rattle.sheet.specs.Rounds.{placeAt, named, inUse, sumOf, donors, ofRound}
-use Rattle.sheet.specs.Law.{Fitting}
+use Rattle.sheet.specs.Law.{Fit}
 use Rattle.sheet.specs.declared.Side.the-variants.{Old, New}
 use Rattle.sheet.proofs.Those.{those-in}
 use Rattle.selection.specs.Choice.{donorNumber, donorsOf, liftsOf, heldIn, planOf, nobody, liftAt}
@@ -53,36 +53,34 @@ new-at r ls j = go (ofRound r ls) j
     go (u ∷ us) zero = refl
     go (u ∷ us) (suc j) = go us j
 
-module _ {ws : List ℕ} (f : Fitting ws) {r : ℕ} (low : 1 ≤ r) (high : r ≤ mostRounds) (some : 0 < named New r (lifts ws)) where
-  fair-shares : (j : ℕ) → j < length (ofRound r (lifts ws)) → share (lifts ws) r j ≈ placeAt New (liftAt r (lifts ws) j) .measure // sumOf New r (lifts ws)
+module _ {ls : List Lift} (f : Fit ls) {r : ℕ} (low : 1 ≤ r) (high : r ≤ mostRounds) (some : 0 < named New r ls) where
+  fair-shares : (j : ℕ) → j < length (ofRound r ls) → share ls r j ≈ placeAt New (liftAt r ls j) .measure // sumOf New r ls
   unfolding share roundShare
   fair-shares j l =
-      let ls = lifts ws in
       let F : Held → Fraction = λ h. weight (chooses j) (paths (plan (donorsOf r ls) (liftsOf r ls) h)) in
       let e = selections-ext ls (λ ms. weight (chooses j) (paths (planOf r ms))) (λ ms. F (heldIn r ms)) (λ m d. ap (λ p. weight (chooses j) (paths p)) (plan-marked m r ls)) in
       rw e
-      (≈-trans (transfer ws f r low high F (λ h. weight-den (chooses j) (plan (donorsOf r ls) (liftsOf r ls) h)))
+      (≈-trans (transfer ls f r low high F (λ h. weight-den (chooses j) (plan (donorsOf r ls) (liftsOf r ls) h)))
       (rw (← S-round f low high, ← new-at r ls j) (round-shares (donorsOf r ls) (liftsOf r ls) (round-fits f low high some) .shares j (rw (length-lifts r ls) l))))
 
-  kept-moved : kept (lifts ws) r ≈ roundKept (donorsOf r (lifts ws)) (liftsOf r (lifts ws))
+  kept-moved : kept ls r ≈ roundKept (donorsOf r ls) (liftsOf r ls)
   unfolding kept roundKept
   kept-moved =
-      let ls = lifts ws in
       let F : Held → Fraction = λ h. weight (λ s. isHeld h (s .place)) (paths (plan (donorsOf r ls) (liftsOf r ls) h)) in
       let e = selections-ext ls (λ ms. weight (λ s. liftAt r ms (s .place) .held) (paths (planOf r ms))) (λ ms. F (heldIn r ms))
       (λ m d.
-      weight-ext (λ s. flags ws f m d r low high (s .place)) (paths (planOf r (marked m ls)))
+      weight-ext (λ s. flags ls f m d r low high (s .place)) (paths (planOf r (marked m ls)))
       ∙ ap (λ p. weight (λ s. isHeld (heldIn r (marked m ls)) (s .place)) (paths p)) (plan-marked m r ls)) in
-      rw e (transfer ws f r low high F (λ h. weight-den (λ s. isHeld h (s .place)) (plan (donorsOf r ls) (liftsOf r ls) h)))
+      rw e (transfer ls f r low high F (λ h. weight-den (λ s. isHeld h (s .place)) (plan (donorsOf r ls) (liftsOf r ls) h)))
 
-  one-donor : (t : ℕ) → donors r (lifts ws) ≡ t ∷ [] → donorsOf r (lifts ws) ≡ One (sumOf Old t (lifts ws))
+  one-donor : (t : ℕ) → donors r ls ≡ t ∷ [] → donorsOf r ls ≡ One (sumOf Old t ls)
   unfolding donorsOf
   one-donor t e = rw e
 
-  fair-best : (t : ℕ) → donors r (lifts ws) ≡ t ∷ [] → U 1 (liftsOf r (lifts ws)) ≡ sumOf Old t (lifts ws)
-      → let ls = lifts ws in Best (weights (donorsOf r ls) (liftsOf r ls)) (D (donorsOf r ls) (liftsOf r ls) * sumOf New r ls) (kept ls r)
+  fair-best : (t : ℕ) → donors r ls ≡ t ∷ [] → U 1 (liftsOf r ls) ≡ sumOf Old t ls
+      → Best (weights (donorsOf r ls) (liftsOf r ls)) (D (donorsOf r ls) (liftsOf r ls) * sumOf New r ls) (kept ls r)
   fair-best t e u =
-      let ls = lifts ws in let o = one-donor t e in
+      let o = one-donor t e in
       let m : kept ls r ≈ roundKept (One (sumOf Old t ls)) (liftsOf r ls) = rw o at kept-moved in
       rw (o, ← S-round f low high) (best-≈ (≈-sym m) (round-keeps (sumOf Old t ls) (liftsOf r ls) (rw o at (round-fits f low high some)) u))
 
@@ -93,19 +91,19 @@ at-inside (n ∷ ns) zero h = omega arith
 at-inside (n ∷ ns) (suc i) h = omega (arith, at-inside ns i h)
 
 pub fair : FairTheorem
-fair ws f =
+fair ls f =
     record {
       rounds = λ r d.
-          let q = those-in (λ r. ltb 0 (named New r (lifts ws))) 1 mostRounds r d in
-          let some = ltb-true 0 (named New r (lifts ws)) (q .0) in
+          let q = those-in (λ r. ltb 0 (named New r ls)) 1 mostRounds r d in
+          let some = ltb-true 0 (named New r ls) (q .0) in
           let high : r ≤ mostRounds = omega (arith, q .2) in
           record {
             shares = fair-shares f (q .1) high some;
             runs = λ m d′ p n words start out k j e i er ev.
-                carries (sheetOf (marked m (lifts ws))) (back ws f m d′) words start out e i
-                (rw (inUse-marked m New (lifts ws)) (at-inside (inUse New (lifts ws)) i (rw er (omega (arith, q .1))))) (rw (inUse-marked m New (lifts ws)) er) p n ev;
+                carries (sheetOf (marked m ls)) (back ls f m d′) words start out e i
+                (rw (inUse-marked m New ls) (at-inside (inUse New ls) i (rw er (omega (arith, q .1))))) (rw (inUse-marked m New ls) er) p n ev;
             best = fair-best f (q .1) high some;
           };
-      fits = marked-fits ws f;
-      whole = whole ws f;
+      fits = marked-fits ls f;
+      whole = whole ls f;
     }

@@ -1,4 +1,4 @@
--- In every fitting sheet the marks of a round are the held lifts that its choice starts from.
+-- Where lifts fit, the marks of a round are the held lifts that its choice starts from.
 use Prim.Native.Nat.{ℕ, zero, suc, _+_, _≤_}
 use mathlib.Core.Path.{_≡_, refl, sym, ap, ap₂, _∙_}
 use mathlib.Core.Bool.{Bool, true, false, cond, _&&_, _||_, or-false, or-true, and-false, and-or-distrib-left, false≢true}
@@ -13,11 +13,10 @@ use Rattle.laws.specs.Sum.{totalBy, indicator}
 use Rattle.laws.proofs.Lists.{All, all-none, all-keep, all-getD}
 use Rattle.round.specs.Choice.{isHeld}
 use Rattle.round.specs.Share.{Initial, here, elsewhere, heldOf}
-use Rattle.sheet.specs.Sheet.{mostRounds, Lift, lifts}
+use Rattle.sheet.specs.Sheet.{mostRounds, Lift}
 use Rattle.sheet.specs.Rounds.{comes, sends, donors, ofRound, heldIn as heldCount}
-use Rattle.sheet.specs.Law.{Listed, Fitting}
+use Rattle.sheet.specs.Law.{Listed, Fit}
 use Rattle.sheet.proofs.Those.{those-has}
-use Rattle.sheet.proofs.Trips.{read-theorem}
 use Rattle.selection.specs.Choice.{further, heldAt, heldAmong, heldIn, nobody, liftAt}
 use Rattle.selection.proofs.Held.{proper, somewhere, held-one}
 
@@ -124,22 +123,22 @@ unfolding sends
 sends-has t r (List·Memᴰ·head {xs = ls} e) c = rw (← e, c)
 sends-has t r (List·Memᴰ·tail {x = x} m) c = rw (sends-has t r m c) (or-true (comes t r x))
 
--- in every fitting sheet the marks are the held lifts that the round's choice starts from
-pub flagged : (ws : List ℕ) → Fitting ws → (r : ℕ) → 1 ≤ r → r ≤ mostRounds → (i : ℕ) → liftAt r (lifts ws) i .held ≡ isHeld (heldIn r (lifts ws)) i
+-- where lifts fit, the marks are the held lifts that the round's choice starts from
+pub flagged : (ls : List Lift) → Fit ls → (r : ℕ) → 1 ≤ r → r ≤ mostRounds → (i : ℕ) → liftAt r ls i .held ≡ isHeld (heldIn r ls) i
 unfolding liftAt heldIn
-flagged ws f r a b i =
-    among (ofRound r (lifts ws)) (λ t. le-trans (ofRound-held r t (lifts ws)) (held-one (lifts ws) d (f .held) t)) i (donors r (lifts ws)) (f .donors r a b)
-    (all-getD Donor (λ e. absurd (false≢true e)) (ofRound r (lifts ws)) (ofRound-all Donor r (lifts ws) donor) i)
+flagged ls f r a b i =
+    among (ofRound r ls) (λ t. le-trans (ofRound-held r t ls) (held-one ls d (f .rounds .held) t)) i (donors r ls) (f .rounds .donors r a b)
+    (all-getD Donor (λ e. absurd (false≢true e)) (ofRound r ls) (ofRound-all Donor r ls donor) i)
   where
-    d : Listed 0 (lifts ws)
-    d = read-theorem ws (f .words) .listable .listed
+    d : Listed 0 ls
+    d = f .listable .listed
 
     Donor : Lift → Type 0
-    Donor l = l .held ≡ true → List·Memᴰ (l .old .round) (donors r (lifts ws))
+    Donor l = l .held ≡ true → List·Memᴰ (l .old .round) (donors r ls)
 
-    donor : All (λ l. l .new .round ≡ r → Donor l) (lifts ws)
+    donor : All (λ l. l .new .round ≡ r → Donor l) ls
     donor l m q e =
-        let p = proper 0 (lifts ws) d l m in
-        those-has (λ t. sends t r (lifts ws)) 1 mostRounds (l .old .round)
+        let p = proper 0 ls d l m in
+        those-has (λ t. sends t r ls) 1 mostRounds (l .old .round)
         (sends-has (l .old .round) r m (rw (eq-eqb (l .old .round) (l .old .round) refl, eq-eqb (l .new .round) r q, lt-ltb 0 (l .old .measure) (p .held e))))
         (somewhere p e) (omega (arith, p .old .round))

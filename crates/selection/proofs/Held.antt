@@ -7,15 +7,14 @@ use mathlib.Core.List.{List, [], _∷_, _++_, map}
 use native.Mathlib.Omega.{arith}
 use lib.Dec.{eqb, ltb, leb}
 use lib.ListN.{length}
-use borrow.Author.Tests.{eqb-true, leb-true, leb-false, ne-eqb, ltb-false, le-ltb}
+use borrow.Author.Tests.{eqb-true, leb-true, leb-false, ltb-false}
 use Rattle.laws.specs.Sum.{over, Σ, total, indicator}
 use Rattle.laws.proofs.Lists.{All, all-none, all-more, all-getD}
 use Rattle.laws.proofs.Sums.{indicator-le, Σ-totalBy, Σ-mono, Σ-const, totalBy-none, totalBy-le}
-use Rattle.sheet.specs.Sheet.{mostLifts, mostRounds, longest, Lift, written, sheetOf, word, heldKind, endKind}
+use Rattle.sheet.specs.Sheet.{mostRounds, longest, Lift, written, sheetOf, word, heldKind, endKind}
 use Rattle.sheet.specs.Rounds.{named, heldIn as heldCount}
-use Rattle.sheet.specs.Reading.{mislong}
 use Rattle.sheet.specs.Refusal.{unheld}
-use Rattle.sheet.specs.Law.{Proper, Listed}
+use Rattle.sheet.specs.Law.{Proper, Listed, Nowhere, Fit}
 use Rattle.sheet.specs.declared.Side.the-variants.{Old}
 use Rattle.selection.specs.Choice.{nobody}
 
@@ -81,7 +80,7 @@ module _ (ls : List Lift) (d : Listed 0 ls) where
       go l q p true e = absurd (out (omega (arith, somewhere p e)) (omega (arith, p .old .round)))
       go l q p false e = refl
 
-  module _ (h : (r : ℕ) → 1 ≤ r → r ≤ mostRounds → unheld ls r ≡ false) where
+  module _ (h : Nowhere (unheld ls)) where
     -- so no old round has more than one
     pub held-one : (t : ℕ) → heldCount t ls ≤ 1
     held-one t = go (leb 1 t) refl (leb t mostRounds) refl
@@ -101,8 +100,7 @@ module _ (ls : List Lift) (d : Listed 0 ls) where
               (λ i _. all-getD (λ l. l .old .round < suc mostRounds) (omega arith) ls (λ l m. let p = proper 0 ls d l m in omega (arith, p .old .round)) i),
         )
 
-    -- and their sheet is not too long
-    pub not-mislong : length ls ≤ mostLifts → mislong (sheetOf ls) ≡ false
-    not-mislong f =
-        let e = length-written ls (word endKind (length ls) ∷ []) in
-        rw (ne-eqb (length (sheetOf ls)) 0 (λ z. omega (arith, e)), le-ltb longest (length (sheetOf ls)) (omega (arith, e, held-few)))
+-- and the sheet of lifts that fit is not too long
+pub sheet-short : {ls : List Lift} → Fit ls → length (sheetOf ls) ≤ longest
+sheet-short {ls} f =
+    omega (arith, length-written ls (word endKind (length ls) ∷ []), held-few ls (f .listable .listed) (f .rounds .held), f .listable .few)

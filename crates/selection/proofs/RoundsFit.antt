@@ -1,4 +1,4 @@
--- What a fitting sheet gives of each of its new rounds: the sums of the round and of its donors, and where held lifts stand.
+-- What lifts that fit give of each of their new rounds: the sums of the round and of its donors, and where held lifts stand.
 use Prim.Native.Nat.{ℕ, suc, _+_, _-_, _≤_, _<_}
 use mathlib.Core.Path.{_≡_, refl, sym, ap, ap₂, _∙_}
 use mathlib.Core.Bool.{Bool, true, false, cond, _&&_, _||_, false≢true, true≢false}
@@ -14,9 +14,9 @@ use Rattle.round.specs.Share.{Initial, here, elsewhere, heldOf}
 use Rattle.round.specs.declared.Donors.the-variants.{One, Two}
 use Rattle.round.specs.Slices.{lift, Stands, Bounded, SumsBounded}
 use Rattle.round.specs.declared.Lift.{Lift as RoundLift}
-use Rattle.sheet.specs.Sheet.{mostRounds, largestSum, Lift, lifts}
+use Rattle.sheet.specs.Sheet.{mostRounds, largestSum, Lift}
 use Rattle.sheet.specs.Rounds.{placeAt, named, sumOf, sends, donors, ofRound}
-use Rattle.sheet.specs.Law.{Fitting}
+use Rattle.sheet.specs.Law.{Fit}
 use Rattle.sheet.specs.declared.Side.the-variants.{Old, New}
 use Rattle.sheet.proofs.Those.{those-head}
 use Rattle.selection.specs.Choice.{donorNumber, withSums, donorsOf, liftsOf, further, heldAt, heldAmong, heldIn}
@@ -126,80 +126,80 @@ pub data Senders (r : ℕ) (ls : List Lift) : List ℕ → Type 0 where
   one : {d : ℕ} → sends d r ls ≡ true → 1 ≤ d → d ≤ mostRounds → Senders r ls (d ∷ [])
   two : {d e : ℕ} → sends d r ls ≡ true → sends e r ls ≡ true → 1 ≤ d → d < e → e ≤ mostRounds → Senders r ls (d ∷ e ∷ [])
 
-module _ {ws : List ℕ} (f : Fitting ws) {r : ℕ} (low : 1 ≤ r) (high : r ≤ mostRounds) where
-  pub senders : Senders r (lifts ws) (donors r (lifts ws))
-  senders = go (donors r (lifts ws)) refl
+module _ {ls : List Lift} (f : Fit ls) {r : ℕ} (low : 1 ≤ r) (high : r ≤ mostRounds) where
+  pub senders : Senders r ls (donors r ls)
+  senders = go (donors r ls) refl
     where
       p : ℕ → Bool
-      p t = sends t r (lifts ws)
+      p t = sends t r ls
 
-      go : (ds : List ℕ) → donors r (lifts ws) ≡ ds → Senders r (lifts ws) ds
+      go : (ds : List ℕ) → donors r ls ≡ ds → Senders r ls ds
       go [] q = none
       go (d ∷ []) q = let h = those-head p 1 mostRounds d [] q in one (h .passes) (h .from) (omega (arith, h .upto))
       go (d ∷ e ∷ []) q =
           let h = those-head p 1 mostRounds d (e ∷ []) q in
           let k = those-head p (suc d) (1 + mostRounds - suc d) e [] (sym (h .rest)) in
           two (h .passes) (k .passes) (h .from) (k .from) (omega (arith, h .upto, k .upto))
-      go (d ∷ e ∷ c ∷ ds) q = absurd (omega (arith, leb-false 3 (length (donors r (lifts ws))) (f .donors r low high), ap length q))
+      go (d ∷ e ∷ c ∷ ds) q = absurd (omega (arith, leb-false 3 (length (donors r ls)) (f .rounds .donors r low high), ap length q))
 
-  sum-new : sumOf New r (lifts ws) ≤ largestSum
-  sum-new = ltb-false largestSum (sumOf New r (lifts ws)) (f .new r low high)
+  sum-new : sumOf New r ls ≤ largestSum
+  sum-new = ltb-false largestSum (sumOf New r ls) (f .rounds .new r low high)
 
-  sum-old : (d : ℕ) → 1 ≤ d → d ≤ mostRounds → sumOf Old d (lifts ws) ≤ largestSum
-  sum-old d l h = ltb-false largestSum (sumOf Old d (lifts ws)) (f .old d l h)
+  sum-old : (d : ℕ) → 1 ≤ d → d ≤ mostRounds → sumOf Old d ls ≤ largestSum
+  sum-old d l h = ltb-false largestSum (sumOf Old d ls) (f .rounds .old d l h)
 
-  donated : (ds : List ℕ) → Senders r (lifts ws) ds → Donate (withSums ds (lifts ws)) (roundBy (donorNumber ds) r (lifts ws))
+  donated : (ds : List ℕ) → Senders r ls ds → Donate (withSums ds ls) (roundBy (donorNumber ds) r ls)
   donated [] none = tt
   donated (d ∷ []) (one s l h) =
-      let e = U-sum (donorNumber (d ∷ [])) 1 d (number-first d []) r (lifts ws) in
-      record { some = rw e (sent-some d r (lifts ws) s); part = rw e (sent-le d r (lifts ws)) }
+      let e = U-sum (donorNumber (d ∷ [])) 1 d (number-first d []) r ls in
+      record { some = rw e (sent-some d r ls s); part = rw e (sent-le d r ls) }
   donated (d ∷ c ∷ []) (two s t l m h) =
-      let e = U-sum (donorNumber (d ∷ c ∷ [])) 1 d (number-first d (c ∷ [])) r (lifts ws) in
-      let g = U-sum (donorNumber (d ∷ c ∷ [])) 2 c (number-second d c [] m) r (lifts ws) in
-      (record { some = rw e (sent-some d r (lifts ws) s); part = rw e (sent-le d r (lifts ws)) }, record { some = rw g (sent-some c r (lifts ws) t); part = rw g (sent-le c r (lifts ws)) })
+      let e = U-sum (donorNumber (d ∷ c ∷ [])) 1 d (number-first d (c ∷ [])) r ls in
+      let g = U-sum (donorNumber (d ∷ c ∷ [])) 2 c (number-second d c [] m) r ls in
+      (record { some = rw e (sent-some d r ls s); part = rw e (sent-le d r ls) }, record { some = rw g (sent-some c r ls t); part = rw g (sent-le c r ls) })
 
-  limited : (ds : List ℕ) → Senders r (lifts ws) ds → SumsBounded (withSums ds (lifts ws))
+  limited : (ds : List ℕ) → Senders r ls ds → SumsBounded (withSums ds ls)
   limited [] none = tt
   limited (d ∷ []) (one s l h) = sum-old d l h
   limited (d ∷ c ∷ []) (two s t l m h) = (sum-old d l (omega arith), sum-old c (omega arith) h)
 
   -- the round's own sum
-  pub S-round : S (liftsOf r (lifts ws)) ≡ sumOf New r (lifts ws)
+  pub S-round : S (liftsOf r ls) ≡ sumOf New r ls
   unfolding liftsOf
-  S-round = S-sum (donorNumber (donors r (lifts ws))) r (lifts ws)
+  S-round = S-sum (donorNumber (donors r ls)) r ls
 
-  pub positive : 0 < named New r (lifts ws) → 0 < sumOf New r (lifts ws)
-  positive n = go (eqb (sumOf New r (lifts ws)) 0) refl
+  pub positive : 0 < named New r ls → 0 < sumOf New r ls
+  positive n = go (eqb (sumOf New r ls) 0) refl
     where
-      go : (t : Bool) → eqb (sumOf New r (lifts ws)) 0 ≡ t → 0 < sumOf New r (lifts ws)
-      go true e = absurd (true≢false (sym (ap₂ _&&_ (lt-ltb 0 (named New r (lifts ws)) n) e) ∙ f .measured r low high))
-      go false e = omega (arith, eqb-false (sumOf New r (lifts ws)) 0 e)
+      go : (t : Bool) → eqb (sumOf New r ls) 0 ≡ t → 0 < sumOf New r ls
+      go true e = absurd (true≢false (sym (ap₂ _&&_ (lt-ltb 0 (named New r ls) n) e) ∙ f .rounds .measured r low high))
+      go false e = omega (arith, eqb-false (sumOf New r ls) 0 e)
 
-  pub round-fits : 0 < named New r (lifts ws) → RoundFitting (donorsOf r (lifts ws)) (liftsOf r (lifts ws))
+  pub round-fits : 0 < named New r ls → RoundFitting (donorsOf r ls) (liftsOf r ls)
   unfolding donorsOf liftsOf
-  round-fits n = record { positive = rw S-round (positive n); donate = donated (donors r (lifts ws)) senders }
+  round-fits n = record { positive = rw S-round (positive n); donate = donated (donors r ls) senders }
 
-  pub round-bounded : Bounded (donorsOf r (lifts ws)) (liftsOf r (lifts ws))
+  pub round-bounded : Bounded (donorsOf r ls) (liftsOf r ls)
   unfolding donorsOf
-  round-bounded = record { new = rw S-round sum-new; old = limited (donors r (lifts ws)) senders }
+  round-bounded = record { new = rw S-round sum-new; old = limited (donors r ls) senders }
 
-  stands-among : (ds : List ℕ) → Senders r (lifts ws) ds → (us : List Lift) → Stands (withSums ds (lifts ws)) (heldAmong ds us) (length us)
+  stands-among : (ds : List ℕ) → Senders r ls ds → (us : List Lift) → Stands (withSums ds ls) (heldAmong ds us) (length us)
   stands-among [] none us = tt
   stands-among (d ∷ []) (one s l h) us = go (heldAt d us) (sits d us)
     where
-      go : (x : Initial) → Sits (length us) x → Stands (One (sumOf Old d (lifts ws))) (heldOf x elsewhere) (length us)
+      go : (x : Initial) → Sits (length us) x → Stands (One (sumOf Old d ls)) (heldOf x elsewhere) (length us)
       go (here i) k = k
       go elsewhere k = tt
   stands-among (d ∷ e ∷ []) (two s t l m h) us = go (heldAt d us) (heldAt e us) (sits d us) (sits e us)
     where
-      go : (x y : Initial) → Sits (length us) x → Sits (length us) y → Stands (Two (sumOf Old d (lifts ws)) (sumOf Old e (lifts ws))) (heldOf x y) (length us)
+      go : (x y : Initial) → Sits (length us) x → Sits (length us) y → Stands (Two (sumOf Old d ls) (sumOf Old e ls)) (heldOf x y) (length us)
       go (here i) (here j) k n = (k, n)
       go (here i) elsewhere k n = k
       go elsewhere (here j) k n = n
       go elsewhere elsewhere k n = tt
 
-  pub round-stands : Stands (donorsOf r (lifts ws)) (heldIn r (lifts ws)) (length (liftsOf r (lifts ws)))
+  pub round-stands : Stands (donorsOf r ls) (heldIn r ls) (length (liftsOf r ls))
   unfolding donorsOf heldIn liftsOf
   round-stands =
-      rw (length-map (ofRound r (lifts ws)) (λ l. lift (l .old .measure) (donorNumber (donors r (lifts ws)) (l .old .round)) (placeAt New l .measure)))
-      (stands-among (donors r (lifts ws)) senders (ofRound r (lifts ws)))
+      rw (length-map (ofRound r ls) (λ l. lift (l .old .measure) (donorNumber (donors r ls) (l .old .round)) (placeAt New l .measure)))
+      (stands-among (donors r ls) senders (ofRound r ls))

@@ -14,12 +14,11 @@ use Rattle.round.specs.Share.{Initial, elsewhere, heldOf, overInitial, overHeld
 use Rattle.round.specs.declared.Held.{Held}
 use Rattle.round.specs.declared.Held.the-variants.{Neither}
 use Rattle.round.proofs.Initials.{initial-den}
-use Rattle.sheet.specs.Sheet.{mostRounds, Lift, lifts}
+use Rattle.sheet.specs.Sheet.{mostRounds, Lift}
 use Rattle.sheet.specs.Rounds.{named, sumOf, heldIn as heldCount, sends, donors, ofRound}
-use Rattle.sheet.specs.Law.{Listed, Fitting}
+use Rattle.sheet.specs.Law.{Listed, Fit}
 use Rattle.sheet.specs.declared.Side.the-variants.{Old}
 use Rattle.sheet.proofs.Those.{those-none, Rising, those-rise}
-use Rattle.sheet.proofs.Trips.{read-theorem}
 use Rattle.selection.specs.Choice.{donorNumber, withSums, donorsOf, liftsOf, heldAt, heldAmong, heldIn}
 use Rattle.selection.specs.Initial.{marked, odds, overSelections}
 use Rattle.selection.proofs.Marks.{sends-marked, ofRound-marked}
@@ -104,34 +103,33 @@ module _ (n : ℕ) (ls : List Lift) (l : Listed n ls) (r : ℕ) (f : Held → Fr
       (sorted d r 1 key (number-first d (e ∷ [])) T₁ p₁ n ls l inner w)
   donors-mean a (d ∷ e ∷ g ∷ ds) s c = absurd (omega (arith, leb-false 3 (length (d ∷ e ∷ g ∷ ds)) c))
 
--- an old round of a fitting sheet has a sum above 0
-measured : (ws : List ℕ) → Fitting ws → (t : ℕ) → 1 ≤ t → t < 1 + mostRounds → ltb 0 (named Old t (lifts ws)) ≡ true → 0 < sumOf Old t (lifts ws)
-measured ws f t a b e =
-    let h : heldCount t (lifts ws) ≡ 1 = eqb-true (heldCount t (lifts ws)) 1 (not-false _ (rw e at (f .held t a (omega arith)))) in
-    omega (arith, held-measured 0 (lifts ws) (read-theorem ws (f .words) .listable .listed) t)
+-- an old round of lifts that fit has a sum above 0
+measured : (ls : List Lift) → Fit ls → (t : ℕ) → 1 ≤ t → t < 1 + mostRounds → ltb 0 (named Old t ls) ≡ true → 0 < sumOf Old t ls
+measured ls f t a b e =
+    let h : heldCount t ls ≡ 1 = eqb-true (heldCount t ls) 1 (not-false _ (rw e at (f .rounds .held t a (omega arith)))) in
+    omega (arith, held-measured 0 ls (f .listable .listed) t)
 
 -- ---- what is shown
 
 -- the mean over all initial selections of what looks only at the held lifts of a round is that over its donors' alone
-pub transfer : (ws : List ℕ) → Fitting ws → (r : ℕ) → 1 ≤ r → r ≤ mostRounds → (F : Held → Fraction) → ((h : Held) → 0 < F h .den)
-    → overSelections (lifts ws) (λ ms. F (heldIn r ms)) ≈ overHeld (donorsOf r (lifts ws)) (liftsOf r (lifts ws)) F
+pub transfer : (ls : List Lift) → Fit ls → (r : ℕ) → 1 ≤ r → r ≤ mostRounds → (F : Held → Fraction) → ((h : Held) → 0 < F h .den)
+    → overSelections ls (λ ms. F (heldIn r ms)) ≈ overHeld (donorsOf r ls) (liftsOf r ls) F
 unfolding overSelections odds heldIn donorsOf liftsOf
-transfer ws f r a b F u =
-    let ls = lifts ws in
-    let l = read-theorem ws (f .words) .listable .listed in
+transfer ls f r a b F u =
+    let l = f .listable .listed in
     let h : (t : ℕ) → sends t r ls ≡ true → ltb 0 (named Old t ls) ≡ true = λ t e. lt-ltb 0 (named Old t ls) (sends-named t r ls e) in
     let ds = donors r ls in
-    let s = those-rise (Donor r ls) (λ t. sends t r ls) 1 mostRounds (λ t a b e. (e, measured ws f t a b (h t e))) in
+    let s = those-rise (Donor r ls) (λ t. sends t r ls) 1 mostRounds (λ t a b e. (e, measured ls f t a b (h t e))) in
     let g : List Lift → Fraction = λ m. F (heldAmong ds (marked m (ofRound r ls))) in
     simp (sends-marked, ofRound-marked)
     (≈-trans
-    (reduced ls (λ t. ltb 0 (named Old t ls)) (λ t. sends t r ls) h 1 mostRounds (measured ws f) g (λ m. u _) (donors-seen 0 ls l r F u 1 ds s))
-    (donors-mean 0 ls l r F u 1 ds s (f .donors r a b)))
+    (reduced ls (λ t. ltb 0 (named Old t ls)) (λ t. sends t r ls) h 1 mostRounds (measured ls f) g (λ m. u _) (donors-seen 0 ls l r F u 1 ds s))
+    (donors-mean 0 ls l r F u 1 ds s (f .rounds .donors r a b)))
 
 -- all initial selections weigh 1 together
-pub whole : (ws : List ℕ) → Fitting ws → overSelections (lifts ws) (λ _. 1 // 1) ≈ 1 // 1
+pub whole : (ls : List Lift) → Fit ls → overSelections ls (λ _. 1 // 1) ≈ 1 // 1
 unfolding overSelections odds means
-whole ws f =
-    let none : (t : ℕ) → false ≡ true → ltb 0 (named Old t (lifts ws)) ≡ true = λ t e. absurd (true≢false (sym e)) in
+whole ls f =
+    let none : (t : ℕ) → false ≡ true → ltb 0 (named Old t ls) ≡ true = λ t e. absurd (true≢false (sym e)) in
     rw (those-none (λ _. false) 1 mostRounds (λ _ _ _. refl)) at
-    (reduced (lifts ws) (λ t. ltb 0 (named Old t (lifts ws))) (λ _. false) none 1 mostRounds (measured ws f) (λ _. 1 // 1) (λ _. omega arith) (λ k m i b e. refl))
+    (reduced ls (λ t. ltb 0 (named Old t ls)) (λ _. false) none 1 mostRounds (measured ls f) (λ _. 1 // 1) (λ _. omega arith) (λ k m i b e. refl))

@@ -10,11 +10,11 @@ use Rattle.round.specs.Round.{U, D, weights}
 use Rattle.round.specs.Choice.{Selection, outcome}
 use Rattle.round.specs.Share.{chooses}
 use Rattle.round.specs.Keep.{Best}
-use Rattle.sheet.specs.Sheet.{Lift, lifts, sheetOf}
+use Rattle.sheet.specs.Sheet.{Lift, sheetOf}
 use Rattle.sheet.specs.Rounds.{placeAt, inUse, sumOf, donors, ofRound}
 use Rattle.sheet.specs.Refusal.{fits, verdict}
 use Rattle.sheet.specs.Reply.{replied}
-use Rattle.sheet.specs.Law.{Fitting}
+use Rattle.sheet.specs.Law.{Fit}
 use Rattle.sheet.specs.declared.Side.the-variants.{Old, New}
 use Rattle.selection.specs.Choice.{donorsOf, liftsOf, heldIn, planOf, liftAt, Panel, chosen, short, panel, reply, pair, output}
 use Rattle.selection.specs.Initial.{selections, marked, overSelections}
@@ -33,7 +33,7 @@ abbrev pub draws : Panel → List (List ℕ)
 draws (chosen cs next) = map (λ c. c .values) cs
 draws (short r) = []
 
--- what is proved of every fitting sheet, with its lifts ls, and every one of its new rounds
+-- what is proved of lifts that fit, as those of every fitting sheet do, and of each of their new rounds
 pub record FairRound (ls : List Lift) (r : ℕ) : Type 0 where
   -- "For each lift of the round, b = 0 included, the ways that have it as their lift weigh together exactly b over S."
   pub shares : (j : ℕ) → j < length (ofRound r ls) → share ls r j ≈ placeAt New (liftAt r ls j) .measure // sumOf New r ls
@@ -57,6 +57,6 @@ pub record Fair (ls : List Lift) : Type 0 where
   -- the selections weigh 1 together
   pub whole : overSelections ls (λ _. 1 // 1) ≈ 1 // 1
 
--- proved: of every fitting sheet
+-- proved: of all lifts that fit
 abbrev pub FairTheorem : Type 0
-FairTheorem = (ws : List ℕ) → Fitting ws → Fair (lifts ws)
+FairTheorem = (ls : List Lift) → Fit ls → Fair ls

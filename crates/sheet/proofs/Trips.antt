@@ -80,7 +80,7 @@ unfolding readFrom
 first-passes s i w ws h = let f = unless-sound (fault s w) i (readFrom (next s w) (i + 1) ws) h in (passes s w (f .0), f .1)
 
 -- behind another word than the end there are more
-not-ended : (s : Before) (i : ℕ) → eqb (s .kind) endKind ≡ false → readFrom s i [] ≡ sound → ⊥
+pub not-ended : (s : Before) (i : ℕ) → eqb (s .kind) endKind ≡ false → readFrom s i [] ≡ sound → ⊥
 unfolding readFrom
 not-ended s i e h = let g = rw e at h in let z : _≡_ {A = ℕ} 0 1 = cc in omega arith
 

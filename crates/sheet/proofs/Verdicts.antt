@@ -1,19 +1,19 @@
 -- The answer to a sheet: the tests of the code on tables are the document's on lifts, and one law for each way out.
 use Prim.Native.Nat.{ℕ, _+_, _≤_, _<_}
-use mathlib.Core.Path.{_≡_, refl, ap, ap₂, subst, _∙_}
-use mathlib.Core.Bool.{Bool, true, false, cond, _||_, or-true, true≢false}
+use mathlib.Core.Path.{_≡_, refl, sym, ap, ap₂, subst, _∙_}
+use mathlib.Core.Bool.{Bool, true, false, cond, _||_, or-true}
 use mathlib.Core.List.{List, [], _∷_}
 use native.Mathlib.Omega.{arith}
 use mathlib.Core.Logic.{_⊎_, inl, inr}
 use lib.Dec.{eqb, leb, ltb}
 use lib.ListN.{length, getD}
 use borrow.Author.Tests.{eq-eqb, ne-eqb, lt-ltb, le-ltb, ltb-false}
-use Rattle.sheet.specs.Sheet.{mostRounds, longest, Lift, lifts}
-use Rattle.sheet.specs.Reading.{mislong, Numbered, numbered, Reading, faulty, sound, reading, ofWords, Legible}
+use Rattle.sheet.specs.Sheet.{mostRounds, longest, Lift, lifts, sheetOf}
+use Rattle.sheet.specs.Reading.{Numbered, numbered, Reading, faulty, sound, start, reading, ofWords, Legible}
 use Rattle.sheet.specs.Rounds.{rounds, inUse}
 use Rattle.sheet.specs.Refusal.{Verdict, refused, fits, unheld, oversize, unmeasured, crowded, firstRound, ofRounds, firstWord, verdict}
 use Rattle.sheet.specs.Tables.{table, tallyOf, donorsOf, breaks, first}
-use Rattle.sheet.specs.Law.{Fitting, DecidedTheorem}
+use Rattle.sheet.specs.Law.{Fit, Fitting, DecidedTheorem}
 use Rattle.sheet.specs.declared.Side.{Side}
 use Rattle.sheet.specs.declared.Side.the-variants.{Old, New}
 use Rattle.sheet.specs.declared.Field.the-variants.{Measure, Held, Unit}
@@ -23,6 +23,7 @@ use Rattle.sheet.specs.declared.Found.the-variants.{At, Nothing}
 use Rattle.sheet.proofs.Tables.{getD-tabulate}
 use Rattle.sheet.proofs.Sending.{donors-count}
 use Rattle.sheet.proofs.Numbers.{Above, above}
+use Rattle.sheet.proofs.Trips.{not-ended, read-theorem, written-theorem}
 use Rattle.sheet.proofs.Those.{those-ext, those-none, none-those}
 
 -- ---- the tests on tables
@@ -125,37 +126,47 @@ read-through : (r : Reading) (v : Verdict) {a b : ℕ} → firstWord r v ≡ fit
 read-through sound v e = (refl, e)
 read-through (faulty x) v e = (cc, cc)
 
--- words that are sound are not too many
-well-long : (t : Bool) (x : Numbered) (r : Reading) → cond t (faulty x) r ≡ sound → (t ≡ false) × (r ≡ sound)
-well-long true x r e = (cc, cc)
-well-long false x r e = (refl, e)
+-- words without a refusal are legible, and legible words have none
+pub legible-words : {ws : List ℕ} → ofWords ws ≡ sound → Legible ws
+legible-words {ws} e = go (eqb (length ws) 0) (ltb longest (length ws)) refl e
+  where
+    go : (t u : Bool) → ltb longest (length ws) ≡ u → cond (t || u) (faulty (numbered 1 (length ws))) (reading ws) ≡ sound → Legible ws
+    go true u h q = let z : _≡_ {A = ℕ} 0 1 = cc in absurd (omega arith)
+    go false true h q = let z : _≡_ {A = ℕ} 0 1 = cc in absurd (omega arith)
+    go false false h q = record { short = ltb-false longest (length ws) h; read = q }
 
-sound-words : (ws : List ℕ) → ofWords ws ≡ sound → (mislong ws ≡ false) × (reading ws ≡ sound)
-sound-words ws e = well-long (mislong ws) _ (reading ws) e
+words-legible : {ws : List ℕ} → Legible ws → sound ≡ ofWords ws
+words-legible {ws} l = at-reading ws (some ws (l .read)) (l .short) (sym (l .read))
+  where
+    some : (ws : List ℕ) → reading ws ≡ sound → length ws ≡ 0 → ⊥
+    some [] e z = not-ended start 0 refl e
+    some (w ∷ ws) e z = omega arith
 
 pub decided : DecidedTheorem
 unfolding verdict ofRounds firstRound
 decided ws =
     record {
       passes = λ f.
-          rw (f .length, f .words)
-          (rw (clear (unheld ls) (f .held), clear (oversize Old ls) (f .old), clear (oversize New ls) (f .new), clear (unmeasured ls) (f .measured), clear (crowded ls) (f .donors)));
+          let g = f .rounds in
+          sym
+          (at-rounds ws (words-legible (f .legible))
+          (rw (clear (unheld ls) (g .held), clear (oversize Old ls) (g .old), clear (oversize New ls) (g .new), clear (unmeasured ls) (g .measured), clear (crowded ls) (g .donors))));
       only = λ n k e.
           let w = read-through (ofWords ws) (ofRounds ls) e in
-          let l = sound-words ws (w .0) in
           let a = passed 7 (rounds (unheld ls)) _ (w .1) in
           let b = passed 8 (rounds (oversize Old ls)) _ (a .1) in
           let c = passed 8 (rounds (oversize New ls)) _ (b .1) in
           let d = passed 9 (rounds (unmeasured ls)) _ (c .1) in
           let g = passed 10 (rounds (crowded ls)) _ (d .1) in
           let fitting : Fitting ws = record {
-            length = l .0;
-            words = l .1;
-            held = none (unheld ls) (a .0);
-            old = none (oversize Old ls) (b .0);
-            new = none (oversize New ls) (c .0);
-            measured = none (unmeasured ls) (d .0);
-            donors = none (crowded ls) (g .0);
+            legible = legible-words (w .0);
+            rounds = record {
+              held = none (unheld ls) (a .0);
+              old = none (oversize Old ls) (b .0);
+              new = none (oversize New ls) (c .0);
+              measured = none (unmeasured ls) (d .0);
+              donors = none (crowded ls) (g .0);
+            };
           } in
           (fitting, cc (g .1), cc (g .1));
       above = λ x e. subst Above e (above ws);
@@ -170,17 +181,12 @@ decided ws =
     none : (p : ℕ → Bool) → rounds p ≡ [] → (r : ℕ) → 1 ≤ r → r ≤ mostRounds → p r ≡ false
     none p e r l m = none-those p 1 mostRounds e r l (omega arith)
 
--- words without a refusal are legible
-short-words : (ws : List ℕ) → mislong ws ≡ false → length ws ≤ longest
-short-words ws e = go (eqb (length ws) 0) e
-  where
-    go : (t : Bool) → t || ltb longest (length ws) ≡ false → length ws ≤ longest
-    go true e = absurd (true≢false e)
-    go false e = ltb-false longest (length ws) e
+-- the lifts of a fitting sheet fit
+pub fit : {ws : List ℕ} → Fitting ws → Fit (lifts ws)
+fit {ws} f = record { listable = read-theorem ws (f .legible .read) .listable; rounds = f .rounds }
 
-pub legible-words : {ws : List ℕ} → ofWords ws ≡ sound → Legible ws
-legible-words {ws} e = let l = sound-words ws e in record { short = short-words ws (l .0); read = l .1 }
-
--- a fitting sheet is legible
-pub legible : {ws : List ℕ} → Fitting ws → Legible ws
-legible {ws} f = record { short = short-words ws (f .length); read = f .words }
+-- and lifts that fit have a fitting sheet, if it is not too long
+pub fits-sheet : {ls : List Lift} → Fit ls → length (sheetOf ls) ≤ longest → Fitting (sheetOf ls)
+fits-sheet {ls} f h =
+    let w = written-theorem ls (f .listable) in
+    record { legible = record { short = h; read = w .sound }; rounds = rw (w .back) (f .rounds) }

@@ -5,7 +5,7 @@ use mathlib.Core.Bool.{Bool, true, false}
 use mathlib.Core.List.{List, [], _∷_}
 use lib.ListN.{length}
 use Rattle.sheet.specs.Sheet.{mostLifts, mostRounds, largestSum, Place, Lift, lifts, sheetOf}
-use Rattle.sheet.specs.Reading.{mislong, Numbered, reading, sound}
+use Rattle.sheet.specs.Reading.{Numbered, reading, sound, Legible}
 use Rattle.sheet.specs.Rounds.{inUse}
 use Rattle.sheet.specs.Refusal.{refused, fits, unheld, oversize, unmeasured, crowded, verdict}
 use Rattle.sheet.specs.declared.Side.the-variants.{Old, New}
@@ -58,15 +58,23 @@ WrittenTheorem = (ls : List Lift) → Listable ls → Written ls
 abbrev pub Nowhere : (ℕ → Bool) → Type 0
 Nowhere p = (r : ℕ) → 1 ≤ r → r ≤ mostRounds → p r ≡ false
 
+-- none of the refusals 7 to 10 applies to any round of some lifts
+pub record RoundsFit (ls : List Lift) : Type 0 where
+  pub held : Nowhere (unheld ls)
+  pub old : Nowhere (oversize Old ls)
+  pub new : Nowhere (oversize New ls)
+  pub measured : Nowhere (unmeasured ls)
+  pub donors : Nowhere (crowded ls)
+
+-- lifts fit when a sheet can tell them and none of the refusals of rounds applies
+pub record Fit (ls : List Lift) : Type 0 where
+  pub listable : Listable ls
+  pub rounds : RoundsFit ls
+
 -- a sheet fits when none of the refusals applies
 pub record Fitting (ws : List ℕ) : Type 0 where
-  pub length : mislong ws ≡ false
-  pub words : reading ws ≡ sound
-  pub held : Nowhere (unheld (lifts ws))
-  pub old : Nowhere (oversize Old (lifts ws))
-  pub new : Nowhere (oversize New (lifts ws))
-  pub measured : Nowhere (unmeasured (lifts ws))
-  pub donors : Nowhere (crowded (lifts ws))
+  pub legible : Legible ws
+  pub rounds : RoundsFit (lifts ws)
 
 -- exactly the sheets that fit are not refused
 pub record Decided (ws : List ℕ) : Type 0 where

@@ -1,7 +1,8 @@
 -- `panel::choose` meets its contract: what the check ensures, by the two cases of its answer; demand 3 is `fair`. Assumes nothing.
 use mathlib.Core.Path.{sym, ap, _∙_}
+use Rattle.sheet.specs.Sheet.{lifts}
 use Rattle.sheet.specs.Refusal.{told as checked}
-use Rattle.sheet.proofs.Verdicts.{decided}
+use Rattle.sheet.proofs.Verdicts.{decided, fit}
 use Rattle.panel.proofs.Answers.{at-sheet, at-fitting}
 use Rattle.selection.proofs.Fair.{fair}
 use borrow.Author.Needs.{needs}
@@ -29,7 +30,7 @@ returns : tie.Need-returns
 returns c =
     let a = c .before .before .before .before .before .before .before .args in
     let e = at-sheet (a .sheet .now) (a .words .now) (a .start) (a .out .now) (sym (ap checked (c .before .checked .given .1)) ∙ c .before .before .before .check .ensures) in
-    (e .0, (e .1, fair (a .sheet .now)))
+    (e .0, (e .1, λ f. fair (lifts (a .sheet .now)) (fit f)))
 
 same-length : tie.Need-same-length
 same-length c = search needs
@@ -39,7 +40,7 @@ returns-2 c =
     let a = c .before .before .before .before .before .before .before .before .before .before .before .args in
     let r = c .before .before .choose-fitting .ensures in
     let e = at-fitting (a .sheet .now) (a .words .now) (a .start) (a .out .now) (sym (ap checked (c .before .before .before .before .before .checked2 .given .1)) ∙ c .before .before .before .before .before .before .before .check .ensures) (r .0) (r .1) in
-    (e .0, (e .1, fair (a .sheet .now)))
+    (e .0, (e .1, λ f. fair (lifts (a .sheet .now)) (fit f)))
 
 pub choose-spec : {M : Type 1} → statement M
 choose-spec =

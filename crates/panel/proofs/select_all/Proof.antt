@@ -4,7 +4,7 @@ use mathlib.Core.Path.{sym, subst, _∙_}
 use lib.ListN.{take}
 use lib.Seq.{length-take-le}
 use Rattle.sheet.specs.Sheet.{lifts}
-use Rattle.sheet.proofs.Verdicts.{legible}
+use Rattle.sheet.proofs.Verdicts.{fit}
 use Rattle.selection.specs.Choice.{panel}
 use Rattle.panel.specs.Slices.{Lent, lent, Picked}
 use Rattle.panel.proofs.Choosing.{Lends, gathered}
@@ -13,46 +13,46 @@ use Rattle.panel.proofs.select_all.Statement.{statement}
 use Rattle.panel.proofs.select_all.Tie as tie
 
 starts-requires : tie.Need-starts-requires
-starts-requires c κs = legible (c .before .before .pre .0)
+starts-requires c κs = c .before .before .pre .0 .legible
 
 tally-requires : tie.Need-tally-requires
-tally-requires c κs = legible (c .before .before .before .pre .0)
+tally-requires c κs = c .before .before .before .pre .0 .legible
 
 donors-requires : tie.Need-donors-requires
-donors-requires c κs = legible (c .before .before .before .before .pre .0)
+donors-requires c κs = c .before .before .before .before .pre .0 .legible
 
 donors-requires-2 : tie.Need-donors-requires-2
-donors-requires-2 c κs = legible (c .before .before .before .before .before .pre .0)
+donors-requires-2 c κs = c .before .before .before .before .before .pre .0 .legible
 
 gather-requires : tie.Need-gather-requires
 gather-requires c κs =
     let starts = c .before .before .before in
     let p = starts .before .before .before .pre in
-    (legible (p .0), (starts .starts .ensures, (p .1, lifts-few p)))
+    (p .0 .legible, (starts .starts .ensures, (p .1, lifts-few p)))
 
 gather-requires-2 : tie.Need-gather-requires-2
 gather-requires-2 c κs =
     let starts = c .before .before .before .before in
     let p = starts .before .before .before .pre in
-    (legible (p .0), (starts .starts .ensures, (p .1, lifts-few p)))
+    (p .0 .legible, (starts .starts .ensures, (p .1, lifts-few p)))
 
 gather-requires-3 : tie.Need-gather-requires-3
 gather-requires-3 c κs =
     let starts = c .before .before .before .before .before in
     let p = starts .before .before .before .pre in
-    (legible (p .0), (starts .starts .ensures, (p .1, lifts-few p)))
+    (p .0 .legible, (starts .starts .ensures, (p .1, lifts-few p)))
 
 gather-requires-4 : tie.Need-gather-requires-4
 gather-requires-4 c κs =
     let starts = c .before .before .before .before .before .before in
     let p = starts .before .before .before .pre in
-    (legible (p .0), (starts .starts .ensures, (p .1, lifts-few p)))
+    (p .0 .legible, (starts .starts .ensures, (p .1, lifts-few p)))
 
 gather-requires-5 : tie.Need-gather-requires-5
 gather-requires-5 c κs =
     let starts = c .before .before .before .before .before .before .before in
     let p = starts .before .before .before .pre in
-    (legible (p .0), (starts .starts .ensures, (p .1, lifts-few p)))
+    (p .0 .legible, (starts .starts .ensures, (p .1, lifts-few p)))
 
 array-share-prefix-number : tie.Need-array-share-prefix-number
 array-share-prefix-number c = omega (arith, lifts-few (c .before .before .before .before .before .before .before .before .before .before .before .pre), c .before .before .before .before .gather .ok .1 .0 .1)
@@ -105,7 +105,7 @@ given c =
     let n = starts .before .before .before .args .lifts in
     lent (take n (number .gather .result)) (take n (from .gather2 .result)) (take n (old .gather3 .result)) (take n (new .gather4 .result)) (take n (held .gather5 .result)) (starts .starts .result) (sums .tally .result) (low .donors .result) (high .donors2 .result)
 
-lends : (c : tie.After-high) → Lends (c .before .before .before .before .before .before .before .before .before .before .before .before .before .before .before .before .before .before .before .before .before .args .sheet .now) (given c)
+lends : (c : tie.After-high) → Lends (lifts (c .before .before .before .before .before .before .before .before .before .before .before .before .before .before .before .before .before .before .before .before .before .args .sheet .now)) (given c)
 lends c =
     let held = c .before .before .before .before .before .before .before .before .before .before in
     let new = held .before in
@@ -118,7 +118,7 @@ lends c =
     let starts = sums .before in
     let begin = starts .before .before .before in
     record {
-      fitting = begin .pre .0;
+      fit = fit (begin .pre .0);
       numbers = number .gather .ensures;
       from = from .gather2 .ensures;
       old = old .gather3 .ensures;
