@@ -1,4 +1,4 @@
--- The small texts, computed.
+-- The small sheets and texts, computed.
 use mathlib.Core.Path.{_≡_, refl}
 use mathlib.Core.Bool.{true}
 use Rattle.laws.specs.Sum.{totalBy}
@@ -8,8 +8,16 @@ use Rattle.sheet.specs.Rounds.{those, sends}
 use Rattle.sheet.specs.Refusal.{firstRound, ofRounds, verdict}
 use Rattle.counts.specs.Text.{lines, before, behind, allDigits, valueFrom, entry}
 use Rattle.counts.specs.Counts.{among, had, gatherFrom, measured, result}
-use Rattle.counts.specs.Worked.{cases, allRight}
+use Rattle.counts.specs.Worked.{allRight, lineCases, formCases, resultCases}
 
-pub all-right : allRight cases ≡ true
+pub right-lines : allRight lineCases ≡ true
 unfolding totalBy lifts written fault readFrom those sends firstRound ofRounds verdict lines before behind allDigits valueFrom entry among had gatherFrom measured result
-all-right = refl
+right-lines = refl
+
+pub right-forms : allRight formCases ≡ true
+unfolding lifts fault readFrom lines before behind allDigits valueFrom entry among had gatherFrom result
+right-forms = refl
+
+pub right-results : allRight resultCases ≡ true
+unfolding totalBy lifts written fault readFrom those sends firstRound ofRounds verdict lines before behind allDigits valueFrom entry among had gatherFrom measured result
+right-results = refl

@@ -1,77 +1,147 @@
--- Small texts with what Card 1 says of them, as one table to be computed.
+-- Small sheets and texts with what Card 1 says of them, as one table to be computed. Its numbers and texts are literals, so that none of
+-- them can change in definition and code together.
 use Prim.Native.Nat.{ℕ}
+use Prim.Native.Char.{code}
+use Prim.Native.String.{String, [] as none, _∷_ as _▸_}
 use mathlib.Core.Bool.{Bool, true, false, _&&_}
-use mathlib.Core.List.{List, [], _∷_}
+use mathlib.Core.List.{List, [], _∷_, _++_}
 use lib.Dec.{eqb}
-use Rattle.sheet.specs.Sheet.{word, endKind}
-use Rattle.sheet.specs.Worked.{example}
+use Rattle.laws.specs.Same.{same}
+use Rattle.sheet.specs.Sheet.{sheetOf}
+use Rattle.sheet.specs.Worked.{lift, example}
 use Rattle.counts.specs.Counts.{reply, output}
 
--- a sheet and a text, the reply's number and count, and the sheet at the end
+-- a sheet and a text, the reply's number and what comes with it, and the sheet after the call
 pub record Case : Type 0 where
   pub sheet : List ℕ
-  pub text : List ℕ
+  pub text : String
   pub number : ℕ
-  pub count : ℕ
+  pub second : ℕ
   pub after : List ℕ
 
-abbrev case : List ℕ → List ℕ → ℕ → ℕ → List ℕ → Case
-case ws t n k us = record { sheet = ws; text = t; number = n; count = k; after = us }
+-- so many lines taken, and the sheet then
+abbrev taken : List ℕ → String → ℕ → List ℕ → Case
+taken ws t n us = record { sheet = ws; text = t; number = 0; second = n; after = us }
 
--- a refusal: the sheet stays
-abbrev refuses : List ℕ → List ℕ → ℕ → ℕ → Case
-refuses ws t n k = case ws t n k ws
+-- "Any refusal writes nothing."
+abbrev refused : List ℕ → String → ℕ → ℕ → Case
+refused ws t n k = record { sheet = ws; text = t; number = n; second = k; after = ws }
 
-abbrev pub same : List ℕ → List ℕ → Bool
-same [] [] = true
-same [] (y ∷ ys) = false
-same (x ∷ xs) [] = false
-same (x ∷ xs) (y ∷ ys) = eqb x y && same xs ys
+-- the bytes of a text, one for each character
+abbrev bytes : String → List ℕ
+bytes none = []
+bytes (c ▸ s) = code c ∷ bytes s
 
 abbrev pub right : Case → Bool
 right c =
-    let r = reply (c .sheet) (c .text) in
-    eqb (r .number) (c .number) && (eqb (r .second) (c .count) && (eqb (r .third) 0 && same (output (c .sheet) (c .text)) (c .after)))
+    let r = reply (c .sheet) (bytes (c .text)) in
+    eqb (r .number) (c .number) && (eqb (r .second) (c .second) && (eqb (r .third) 0 && same (output (c .sheet) (bytes (c .text))) (c .after)))
 
 abbrev pub allRight : List Case → Bool
 allRight [] = true
 allRight (c ∷ cs) = right c && allRight cs
 
--- the document's sheet with other new measures of lifts 11 and 12
-abbrev with : ℕ → ℕ → List ℕ
-with a b = 0x1000000B ∷ 0x20200002 ∷ a ∷ 0x1000000C ∷ 0x20200003 ∷ b ∷ 0x40000000 ∷ 0x1000000D ∷ 0x20200005 ∷ 0x30200005 ∷ 0xF0000003 ∷ []
+-- ---- the lines
 
--- lift 1 of old round 3, held, with this new place
-abbrev single : ℕ → List ℕ
-single place = 0x10000001 ∷ 0x20600001 ∷ place ∷ 0x40000000 ∷ 0xF0000001 ∷ []
+-- the document's sheet with other new places of lifts 11, 12 and 13
+abbrev changed : ℕ → ℕ → ℕ → List ℕ
+changed a b c = 0x1000000B ∷ 0x20200002 ∷ a ∷ 0x1000000C ∷ 0x20200003 ∷ b ∷ 0x40000000 ∷ 0x1000000D ∷ 0x20200005 ∷ c ∷ 0xF0000003 ∷ []
 
-abbrev pub cases : List Case
-cases =
-    -- no line
-    case example [] 0 0 example
-    -- `11,250 LF`: 250 counts are 3 hundreds
-    ∷ case example (49 ∷ 49 ∷ 44 ∷ 50 ∷ 53 ∷ 48 ∷ 10 ∷ []) 0 1 (with 0x30200003 0x30200001)
-    -- `11,300 CR LF 012,0`: the last line lacks its ending
-    ∷ case example (49 ∷ 49 ∷ 44 ∷ 51 ∷ 48 ∷ 48 ∷ 13 ∷ 10 ∷ 48 ∷ 49 ∷ 50 ∷ 44 ∷ 48 ∷ []) 0 2 (with 0x30200003 0x30200000)
-    -- a CR that is not before an LF; an empty line; no comma; two commas; no count
-    ∷ refuses example (49 ∷ 49 ∷ 44 ∷ 49 ∷ 13 ∷ []) 14 1
-    ∷ refuses example (49 ∷ 49 ∷ 44 ∷ 49 ∷ 10 ∷ 10 ∷ []) 14 2
-    ∷ refuses example (49 ∷ 49 ∷ 10 ∷ []) 14 1
-    ∷ refuses example (49 ∷ 49 ∷ 44 ∷ 49 ∷ 44 ∷ 49 ∷ []) 14 1
-    ∷ refuses example (49 ∷ 49 ∷ 44 ∷ 10 ∷ []) 14 1
-    -- 268,435,456 is no lift number, 104,857,601 no count; 268,435,455 is absent
-    ∷ refuses example (50 ∷ 54 ∷ 56 ∷ 52 ∷ 51 ∷ 53 ∷ 52 ∷ 53 ∷ 54 ∷ 44 ∷ 49 ∷ []) 14 1
-    ∷ refuses example (50 ∷ 54 ∷ 56 ∷ 52 ∷ 51 ∷ 53 ∷ 52 ∷ 53 ∷ 53 ∷ 44 ∷ 49 ∷ []) 15 1
-    ∷ refuses example (49 ∷ 49 ∷ 44 ∷ 49 ∷ 48 ∷ 52 ∷ 56 ∷ 53 ∷ 55 ∷ 54 ∷ 48 ∷ 49 ∷ []) 14 1
-    -- `0,1`, and a lift's second line; "14 first"
-    ∷ refuses example (48 ∷ 44 ∷ 49 ∷ []) 15 1
-    ∷ refuses example (49 ∷ 49 ∷ 44 ∷ 49 ∷ 10 ∷ 49 ∷ 49 ∷ 44 ∷ 49 ∷ []) 15 2
-    ∷ refuses example (49 ∷ 49 ∷ 44 ∷ 49 ∷ 10 ∷ 49 ∷ 49 ∷ 44 ∷ 120 ∷ []) 14 2
+-- the highest-numbered lift, with a new measure
+abbrev highest : ℕ → List ℕ
+highest b = 0x1FFFFFFF ∷ 0x20600001 ∷ b ∷ 0x40000000 ∷ 0xF0000001 ∷ []
+
+abbrev pub lineCases : List Case
+lineCases =
+    -- "Lifts without a line keep theirs."
+    taken example "" 0 example
+    -- "the count divided by 100, rounded up"
+    ∷ taken example "11,0\n12,1\n13,100\n" 3 (changed 0x30200000 0x30200001 0x30200001)
+    ∷ taken example "13,101\n11,200\n" 2 (changed 0x30200002 0x30200001 0x30200002)
+    -- "ended by LF or CR LF; the last may lack its ending"
+    ∷ taken example "11,300\r\n12,400\n13,500" 3 (changed 0x30200003 0x30200004 0x30200005)
+    ∷ taken example "12,900\r\n" 1 (changed 0x30200004 0x30200009 0x30200005)
+    -- "leading zeros allowed", more of them than a number has digits
+    ∷ taken example "000000000000000000000000000000000011,000000000000000000000000000000000700" 1 (changed 0x30200007 0x30200001 0x30200005)
+    -- "a lift number up to 268,435,455", "a count up to 104,857,600", and one beyond
+    ∷ taken (highest 0x30200001) "268435455,104857600" 1 (highest 0x30300000)
+    ∷ refused (highest 0x30200001) "268435456,104857600" 14 1
+    ∷ refused (highest 0x30200001) "268435455,104857601" 14 1
+    -- 11 and 100, with 2 to 32 or 2 to 64 added
+    ∷ refused example "4294967307,100" 14 1
+    ∷ refused example "18446744073709551627,100" 14 1
+    ∷ refused example "11,4294967396" 14 1
+    ∷ refused example "11,18446744073709551716" 14 1
+    -- "15 when its lift is absent from the sheet or had a line already", "place the line from 1"
+    ∷ refused example "0,100" 15 1
+    ∷ refused example "12,100\n14,100" 15 2
+    ∷ refused example "11,100\n12,100\n011,200\n13,100" 15 3
+    -- "both come line by line, 14 first"
+    ∷ refused example "11,100\n11,x" 14 2
+    ∷ refused example "14,x" 14 1
+    ∷ refused example "14,100\nx" 15 1
+    ∷ refused example "x\n14,100" 14 1
+    ∷ []
+
+-- "14 when a line has another form": what is no line
+abbrev otherForms : List String
+otherForms =
+    -- empty, without comma or field, with one comma too many
+    "\n" ∷ "\r\n" ∷ "11" ∷ "11\n,100" ∷ ",100" ∷ "11," ∷ "11,\n" ∷ "11,100," ∷ "11,100,1"
+    -- a CR that no LF follows
+    ∷ "11,100\r" ∷ "11,100\r\r\n" ∷ "11,100\r12,100" ∷ "\r11,100" ∷ "11\r,100"
+    -- blanks, signs, quotes, letters, other separators, the bytes beside the digits, NUL and a byte above 127
+    ∷ " 11,100" ∷ "11 ,100" ∷ "11, 100" ∷ "11,100 " ∷ "11,100\t" ∷ "+11,100" ∷ "11,-100" ∷ "\"11\",100" ∷ "11,\"100\"" ∷ "x,100"
+    ∷ "11,0x64" ∷ "11,1e2" ∷ "11;100" ∷ "11,100.0" ∷ "11,/" ∷ "11,:" ∷ "11,100\0" ∷ "11,²" ∷ []
+
+-- each as the first line
+abbrev malformed : List String → List Case
+malformed [] = []
+malformed (s ∷ ss) = refused example s 14 1 ∷ malformed ss
+
+-- and behind a line that is taken
+abbrev pub formCases : List Case
+formCases = refused example "12,100\n\n" 14 2 ∷ refused example "12,100\r\n11,x" 14 2 ∷ malformed otherForms
+
+-- ---- the sheet lent, and the result
+
+-- two withdrawn lifts
+abbrev withdrawn : List ℕ
+withdrawn = sheetOf (lift 1 1 1 0 0 true ∷ lift 2 2 1 0 0 true ∷ [])
+
+-- two lifts of new round 1
+abbrev two : ℕ → ℕ → List ℕ
+two a b = sheetOf (lift 1 1 1 1 a true ∷ lift 2 1 1 1 b false ∷ [])
+
+-- an old round without a held lift, and a new round with three donors
+abbrev unheld : List ℕ
+unheld = sheetOf (lift 1 5 1 1 1 false ∷ [])
+
+abbrev three : List ℕ
+three = sheetOf (lift 1 1 1 6 1 true ∷ lift 2 2 1 6 1 true ∷ lift 3 3 1 6 1 true ∷ [])
+
+abbrev pub resultCases : List Case
+resultCases =
     -- "after 1 to 6 for the sheet lent"
-    ∷ refuses [] (10 ∷ []) 1 0
-    ∷ refuses (word endKind 1 ∷ []) (10 ∷ []) 5 0
-    -- "The result is then checked": a withdrawn lift with a count; a round of sum 0 that a line cures, and one that a line makes
-    ∷ refuses (single 0x30000000) (49 ∷ 44 ∷ 49 ∷ []) 4 2
-    ∷ case (single 0x30200000) (49 ∷ 44 ∷ 49 ∷ []) 0 1 (single 0x30200001)
-    ∷ refuses (single 0x30200007) (49 ∷ 44 ∷ 48 ∷ []) 9 1
+    refused [] "x" 1 0
+    ∷ refused (0x20000000 ∷ []) "x" 2 0
+    ∷ refused (0x10000000 ∷ []) "x" 3 0
+    ∷ refused (0x1000000B ∷ 0x2CA00001 ∷ []) "x" 4 1
+    ∷ refused (0xF0000001 ∷ []) "x" 5 0
+    ∷ refused (0x1000000B ∷ 0x20200000 ∷ 0x30200001 ∷ 0x40000000 ∷ []) "x" 6 3
+    -- and before 7 to 10
+    ∷ refused unheld "x" 14 1
+    ∷ refused (two 0 0) "3,1" 15 1
+    ∷ refused three "2,1\n2,1" 15 2
+    -- "The result is then checked as any sheet.": 4 by the first such word of the sheet, whichever line comes first
+    ∷ refused withdrawn "2,1\n1,1" 4 2
+    ∷ refused withdrawn "2,1\n1,0" 4 6
+    ∷ taken withdrawn "2,0\n1,0" 2 withdrawn
+    ∷ refused unheld "1,1" 7 5
+    ∷ refused (two 1 1) "2,104857600" 8 1
+    ∷ taken (two 0 1) "2,104857600" 1 (two 0 1048576)
+    ∷ refused (two 0 1) "2,0" 9 1
+    ∷ refused (two 0 0) "" 9 1
+    ∷ taken (two 0 0) "2,1" 1 (two 0 1)
+    ∷ refused three "2,1" 10 6
     ∷ []

@@ -2,3 +2,4 @@ pub mod Sum
 pub mod Interval
 pub mod Fraction
 pub mod Plan
+pub mod Same

@@ -4,8 +4,8 @@ use Prim.Native.Nat.{ℕ, zero, suc, _/_, _%_}
 use mathlib.Core.Bool.{Bool, true, _&&_}
 use mathlib.Core.List.{List, [], _∷_, _++_}
 use lib.ListN.{length}
+use Rattle.laws.specs.Same.{same}
 use Rattle.sheet.specs.Worked.{example}
-use Rattle.round.specs.Worked.{same}
 use Rattle.report.specs.Report.{report}
 
 -- what is kept of the sheet's bytes, how many it has, the bytes of the words, and the text

@@ -5,6 +5,7 @@ use mathlib.Core.Bool.{Bool, true, false, _&&_}
 use mathlib.Core.List.{List, [], _∷_, map}
 use lib.Dec.{ltb, eqb}
 use lib.ListN.{getD}
+use Rattle.laws.specs.Same.{same}
 use Rattle.draw.specs.Draw.{largest, drawAt}
 use Rattle.draw.specs.Worked.{sameDrawn}
 use Rattle.draw.specs.declared.Drawn.{Drawn}
@@ -32,12 +33,6 @@ sameSelected (At i o n) (At j p m) = eqb i j && (eqb o p && eqb n m)
 sameSelected (At i o n) Short = false
 sameSelected Short (At j p m) = false
 sameSelected Short Short = true
-
-abbrev pub same : List ℕ → List ℕ → Bool
-same [] [] = true
-same [] (y ∷ ys) = false
-same (x ∷ xs) [] = false
-same (x ∷ xs) (y ∷ ys) = eqb x y && same xs ys
 
 -- whether the definitions give the answer
 abbrev pub right : Case → Bool

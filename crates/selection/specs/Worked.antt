@@ -6,7 +6,7 @@ use mathlib.Core.Bool.{Bool, true, false, not, _&&_}
 use mathlib.Core.List.{List, [], _∷_}
 use lib.Dec.{eqb, ltb}
 use lib.ListN.{length}
-use Rattle.round.specs.Worked.{same}
+use Rattle.laws.specs.Same.{same}
 use Rattle.sheet.specs.Sheet.{Lift, sheetOf}
 use Rattle.sheet.specs.Rounds.{placeAt, sumOf}
 use Rattle.sheet.specs.Reply.{Reply, numbers}
