@@ -11,7 +11,7 @@ use Rattle.counts.specs.Counts.{among}
 use Rattle.counts.specs.Scan.{Rising}
 
 -- each number is above the bound, and above those before it
-rising-above : (b : ℕ) (ns : List ℕ) → Rising b ns → (j : ℕ) → j < length ns → b < getD ns j 0
+pub rising-above : (b : ℕ) (ns : List ℕ) → Rising b ns → (j : ℕ) → j < length ns → b < getD ns j 0
 unfolding Rising
 rising-above b [] r j h = absurd (omega arith)
 rising-above b (n ∷ ns) r zero h = r .0

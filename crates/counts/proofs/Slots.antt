@@ -1,82 +1,82 @@
 -- The loop over the lines: a slot for each lift holds the measure of its line, and the lines left decide the outcome.
 use Prim.Native.Nat.{ℕ, zero, suc, _+_, _-_, _≤_, _<_}
-use mathlib.Core.Path.{_≡_, refl, sym, ap, _∙_}
-use mathlib.Core.Bool.{Bool, true, false, cond, not, _&&_, _||_, true≢false, false≢true}
-use mathlib.Core.List.{List, [], _∷_, map}
-use native.Mathlib.Numerals.{add-one}
+use mathlib.Core.Path.{_≡_, refl, sym, ap, ap₂, _∙_}
+use mathlib.Core.Bool.{Bool, true, false, cond, not, _&&_, _||_}
+use mathlib.Core.List.{List, [], _∷_, _++_, map, append-assoc, append-nil}
 use native.Mathlib.Omega.{arith}
-use lib.Dec.{eqb, leb}
-use lib.ListN.{length, getD, set, drop, replicate, drop-of-length-le, length-map, length-replicate}
-use lib.Seq.{drop-cons, drop-drop, getD-set-same, getD-set-other}
+use lib.Dec.{eqb}
+use lib.ListN.{length, getD, set, drop, replicate, drop-of-length-le, length-append, length-map, length-replicate}
+use lib.Seq.{drop-cons, drop-drop}
 use borrow.Author.Tests.{eqb-true, eqb-false, eq-eqb, ne-eqb, leb-true}
 use Rattle.sheet.specs.Sheet.{largestSum, Lift}
-use Rattle.sheet.specs.Reading.{numbered}
 use Rattle.sheet.specs.declared.Found.{Found}
 use Rattle.sheet.specs.declared.Found.the-variants.{At, Nothing}
 use Rattle.counts.specs.Text.{LF, lines, before, behind, allDigits, value, empty, isNumber, largestLift, largestCount, Entry, counted, malformed, entry}
-use Rattle.counts.specs.Counts.{Count, countOf, among, had, Gathering, stopped, gathered, atLine, gatherFrom, numbersOf, hundreds, remeasured, measured}
-use Rattle.counts.specs.Scan.{line, extent, lineOf, lineAt, Rising, Located, slot, slots, AllTaken, Tells, liftWith, liftsWith}
+use Rattle.counts.specs.Counts.{among, atLine, linesFrom, numbersOf, hundreds, remeasured, measuredBy, measured}
+use Rattle.counts.specs.Scan.{line, extent, lineOf, lineAt, Rising, Located, slotBy, slot, slots, Tells, liftWith, liftsWith}
 use Rattle.counts.specs.declared.Line.{Line}
 use Rattle.counts.specs.declared.Line.the-variants.{Entry as EntryLine, Malformed}
-use Rattle.counts.specs.declared.Lines.{Lines}
 use Rattle.counts.specs.declared.Lines.the-variants.{Form, Lift as AboutLift, All}
 use Rattle.counts.proofs.Numbers.{and-false, and-split}
 use Rattle.counts.proofs.Texts.{first-line}
-use Rattle.counts.proofs.Finding.{present}
+use Rattle.counts.proofs.Finding.{rising-above, present}
 
 -- ---- slots
 
-pub slot-at : (cs : List Count) (ns : List ℕ) (k : ℕ) → k < length ns → getD (slots ns cs) k 0 ≡ slot cs (getD ns k 0)
-slot-at cs [] k h = absurd (omega arith)
-slot-at cs (n ∷ ns) zero h = refl
-slot-at cs (n ∷ ns) (suc k) h = slot-at cs ns k (omega arith)
+pub slot-at : (xs : List (List ℕ)) (ns : List ℕ) (k : ℕ) → k < length ns → getD (slots ns xs) k 0 ≡ slot xs (getD ns k 0)
+slot-at xs [] k h = absurd (omega arith)
+slot-at xs (n ∷ ns) zero h = refl
+slot-at xs (n ∷ ns) (suc k) h = slot-at xs ns k (omega arith)
 
-slot-had : (cs : List Count) (n : ℕ) → (slot cs n ≡ 0 → ⊥) → had n cs ≡ true
-unfolding slot had
-slot-had [] n h = absurd (h refl)
-slot-had (c ∷ cs) n h = go (eqb (c .lift) n) h (slot-had cs n)
-  where
-    go : (t : Bool) → (cond t (hundreds (c .count) + 1) (slot cs n) ≡ 0 → ⊥) → ((slot cs n ≡ 0 → ⊥) → had n cs ≡ true) → (t || had n cs) ≡ true
-    go true h r = refl
-    go false h r = r h
-
-slot-free : (cs : List Count) (n : ℕ) → slot cs n ≡ 0 → had n cs ≡ false
-unfolding slot had
-slot-free [] n h = refl
-slot-free (c ∷ cs) n h = go (eqb (c .lift) n) h (slot-free cs n)
-  where
-    go : (t : Bool) → cond t (hundreds (c .count) + 1) (slot cs n) ≡ 0 → (slot cs n ≡ 0 → had n cs ≡ false) → (t || had n cs) ≡ false
-    go true h r = absurd (omega arith)
-    go false h r = r h
-
--- a lift's line fills its slot and no other
-other-slots : (c : Count) (cs : List Count) (b : ℕ) (ns : List ℕ) → Rising b ns → c .lift ≤ b → slots ns (c ∷ cs) ≡ slots ns cs
-unfolding Rising slot
-other-slots c cs b [] r h = refl
-other-slots c cs b (n ∷ ns) r h =
-    let l = r .0 in
-    rw (ne-eqb (c .lift) n (omega arith)) (ap (λ vs. slot cs n ∷ vs) (other-slots c cs n ns (r .1) (omega arith)))
-
-rising-at : (b : ℕ) (ns : List ℕ) → Rising b ns → (k : ℕ) → k < length ns → b < getD ns k 0
-unfolding Rising
-rising-at b [] r k h = absurd (omega arith)
-rising-at b (n ∷ ns) r zero h = r .0
-rising-at b (n ∷ ns) r (suc k) h = let l = r .0 in let m = rising-at n ns (r .1) k (omega arith) in omega arith
-
-set-slot : (c : Count) (cs : List Count) (b : ℕ) (ns : List ℕ) → Rising b ns → (k : ℕ) → k < length ns → getD ns k 0 ≡ c .lift
-    → set (slots ns cs) k (hundreds (c .count) + 1) ≡ slots ns (c ∷ cs)
-unfolding Rising slot
-set-slot c cs b [] r k h e = absurd (omega arith)
-set-slot c cs b (n ∷ ns) r zero h e = rw (eq-eqb (c .lift) n (sym e)) (ap (λ vs. (hundreds (c .count) + 1) ∷ vs) (sym (other-slots c cs n ns (r .1) (omega arith))))
-set-slot c cs b (n ∷ ns) r (suc k) h e =
-    let l = rising-at n ns (r .1) k (omega arith) in
-    rw (ne-eqb (c .lift) n (omega arith)) (ap (λ vs. slot cs n ∷ vs) (set-slot c cs n ns (r .1) k (omega arith) e))
-
-slots-none : (ns : List ℕ) (k : ℕ) → getD (slots ns []) k 0 ≤ largestSum + 1
+-- one line more fills a slot that is free
+slot-last : (xs : List (List ℕ)) (x : List ℕ) (n : ℕ) → slot (xs ++ (x ∷ [])) n ≡ cond (eqb (slot xs n) 0) (slotBy (entry x) n 0) (slot xs n)
 unfolding slot
-slots-none [] k = omega arith
-slots-none (n ∷ ns) zero = omega arith
-slots-none (n ∷ ns) (suc k) = slots-none ns k
+slot-last [] x n = refl
+slot-last (y ∷ ys) x n = go (entry y) (slot-last ys x n)
+  where
+    go : (e : Entry) → slot (ys ++ (x ∷ [])) n ≡ cond (eqb (slot ys n) 0) (slotBy (entry x) n 0) (slot ys n)
+        → slotBy e n (slot (ys ++ (x ∷ [])) n) ≡ cond (eqb (slotBy e n (slot ys n)) 0) (slotBy (entry x) n 0) (slotBy e n (slot ys n))
+    go malformed h = h
+    go (counted m c) h = by (eqb m n)
+      where
+        by : (t : Bool) → cond t (hundreds c + 1) (slot (ys ++ (x ∷ [])) n)
+            ≡ cond (eqb (cond t (hundreds c + 1) (slot ys n)) 0) (slotBy (entry x) n 0) (cond t (hundreds c + 1) (slot ys n))
+        by true = rw (ne-eqb (hundreds c + 1) 0 (omega arith))
+        by false = h
+
+-- another lift's line fills none
+module _ (xs : List (List ℕ)) (x : List ℕ) {n c : ℕ} (e : entry x ≡ counted n c) where
+  slot-other : (m : ℕ) → (n ≡ m → ⊥) → slot (xs ++ (x ∷ [])) m ≡ slot xs m
+  slot-other m o = rw (slot-last xs x m, e, ne-eqb n m o) (go (eqb (slot xs m) 0) refl)
+    where
+      go : (t : Bool) → eqb (slot xs m) 0 ≡ t → cond t 0 (slot xs m) ≡ slot xs m
+      go true h = sym (eqb-true (slot xs m) 0 h)
+      go false h = refl
+
+  slot-own : slot xs n ≡ 0 → slot (xs ++ (x ∷ [])) n ≡ hundreds c + 1
+  slot-own h = rw (slot-last xs x n, e, h, eq-eqb n n refl)
+
+  other-slots : (b : ℕ) (ns : List ℕ) → Rising b ns → n ≤ b → slots ns (xs ++ (x ∷ [])) ≡ slots ns xs
+  unfolding Rising
+  other-slots b [] r h = refl
+  other-slots b (m ∷ ms) r h = let l = r .0 in ap₂ _∷_ (slot-other m (λ q. omega arith)) (other-slots m ms (r .1) (omega arith))
+
+  set-slot : slot xs n ≡ 0 → (b : ℕ) (ns : List ℕ) → Rising b ns → (k : ℕ) → k < length ns → getD ns k 0 ≡ n → set (slots ns xs) k (hundreds c + 1) ≡ slots ns (xs ++ (x ∷ []))
+  unfolding Rising
+  set-slot f b [] r k h q = absurd (omega arith)
+  set-slot f b (m ∷ ms) r zero h q = ap₂ _∷_ (sym (rw q (slot-own f))) (sym (other-slots m ms (r .1) (omega arith)))
+  set-slot f b (m ∷ ms) r (suc k) h q =
+      let l = rising-above m ms (r .1) k (omega arith) in
+      ap₂ _∷_ (sym (slot-other m (λ z. omega arith))) (set-slot f m ms (r .1) k (omega arith) q)
+
+  -- whether a lift had a line is whether its slot is filled
+  pub heard-turn : (had : List ℕ) → slot xs n ≡ 0 → ((m : ℕ) → among m had ≡ not (eqb (slot xs m) 0)) → (m : ℕ) → among m (n ∷ had) ≡ not (eqb (slot (xs ++ (x ∷ [])) m) 0)
+  unfolding among
+  heard-turn had f h m = go (eqb n m) refl
+    where
+      go : (t : Bool) → eqb n m ≡ t → (t || among m had) ≡ not (eqb (slot (xs ++ (x ∷ [])) m) 0)
+      go true q = rw (← eqb-true n m q, slot-own f, ne-eqb (hundreds c + 1) 0 (omega arith))
+      go false q = rw (slot-other m (eqb-false n m q)) (h m)
 
 extent-some : (b : ℕ) (bs : List ℕ) → 0 < extent (b ∷ bs)
 unfolding extent
@@ -125,15 +125,31 @@ count-small l {n} {c} e = go (isNumber largestLift (before l)) (isNumber largest
     go true false h q = let z : _≡_ {A = ℕ} 0 1 = cc in absurd (omega arith)
     go false b h q = let z : _≡_ {A = ℕ} 0 1 = cc in absurd (omega arith)
 
+-- every slot is small
+pub slot-small : (xs : List (List ℕ)) (n : ℕ) → slot xs n ≤ largestSum + 1
+unfolding slot
+slot-small [] n = omega arith
+slot-small (x ∷ xs) n = go (entry x) refl (slot-small xs n)
+  where
+    go : (e : Entry) → entry x ≡ e → slot xs n ≤ largestSum + 1 → slotBy e n (slot xs n) ≤ largestSum + 1
+    go malformed q h = h
+    go (counted m c) q h = by (eqb m n)
+      where
+        by : (t : Bool) → cond t (hundreds c + 1) (slot xs n) ≤ largestSum + 1
+        by true = omega (arith, count-small x q)
+        by false = h
+
 -- ---- the loop
 
 pub record Kept (text ns measures : List ℕ) (start i : ℕ) : Type 0 where
-  pub counts : List Count
-  pub same : gatherFrom ns counts (i + 1) (lines (drop start text)) ≡ gatherFrom ns [] 1 (lines text)
-  pub many : i ≡ length counts
-  pub filled : measures ≡ slots ns counts
+  pub done : List (List ℕ)
+  pub had : List ℕ
+  pub parted : done ++ lines (drop start text) ≡ lines text
+  pub same : linesFrom ns had (i + 1) (lines (drop start text)) ≡ linesFrom ns [] 1 (lines text)
+  pub many : i ≡ length done
+  pub heard : (n : ℕ) → among n had ≡ not (eqb (slot done n) 0)
+  pub filled : measures ≡ slots ns done
   pub few : i ≤ start
-  pub small : (k : ℕ) → getD measures k 0 ≤ largestSum + 1
 
 -- no line yet: every slot is 0
 slots-zero : (ns : List ℕ) → slots ns [] ≡ replicate (length ns) 0
@@ -142,30 +158,33 @@ slots-zero [] = refl
 slots-zero (n ∷ ns) = ap (λ vs. 0 ∷ vs) (slots-zero ns)
 
 pub kept-none : (text ns : List ℕ) {measures : List ℕ} → measures ≡ replicate (length ns) 0 → Kept text ns measures 0 0
+unfolding among slot
 kept-none text ns e =
-    let f = e ∙ sym (slots-zero ns) in
-    record { counts = []; same = refl; many = refl; filled = f; few = omega arith; small = λ k. rw f (slots-none ns k) }
+    record { done = []; had = []; parted = refl; same = refl; many = refl; heard = λ n. refl; filled = e ∙ sym (slots-zero ns); few = omega arith }
 
 module _ {text ns measures : List ℕ} {start i : ℕ} (d : Kept text ns measures start i) where
   pub kept-length : length measures ≡ length ns
-  kept-length = rw (d .filled) (length-map ns (slot (d .counts)))
+  kept-length = rw (d .filled) (length-map ns (slot (d .done)))
 
   pub kept-same : {measures₀ : List ℕ} → measures₀ ≡ replicate (length ns) 0 → length measures ≡ length measures₀
   kept-same e = kept-length ∙ sym (ap length e ∙ length-replicate (length ns) 0)
 
-  pub kept-end : length text ≤ start → Tells ns (gatherFrom ns [] 1 (lines text)) (All i) measures
-  unfolding gatherFrom lines
-  kept-end h = record { counts = d .counts; is = sym (d .same) ∙ rw (drop-of-length-le text h); many = d .many; filled = d .filled; small = d .small }
+  pub kept-end : length text ≤ start → Tells ns (lines text) (All i) measures
+  unfolding linesFrom lines
+  kept-end h =
+      let z : lines (drop start text) ≡ [] = rw (drop-of-length-le text h) in
+      let w : d .done ≡ lines text = sym (append-nil (d .done)) ∙ (rw z at (d .parted)) in
+      record { sound = sym (d .same) ∙ rw z; many = d .many ∙ ap length w; filled = d .filled ∙ ap (slots ns) w }
 
   module _ (h : start < length text) {x : Line} (e : x ≡ lineAt text start) where
-    pub kept-malformed : x ≡ Malformed → Tells ns (gatherFrom ns [] 1 (lines text)) (Form (i + 1)) measures
-    unfolding gatherFrom
+    pub kept-malformed : x ≡ Malformed → Tells ns (lines text) (Form (i + 1)) measures
+    unfolding linesFrom
     kept-malformed q = sym (d .same) ∙ rw (step-lines text start h, line-malformed text start e q)
 
     module _ {n c next : ℕ} (q : x ≡ EntryLine n c next) where
       -- what a line with an entry comes to
-      turned : atLine (counted n c) (i + 1) ns (d .counts) (λ n c. gatherFrom ns (countOf n c ∷ d .counts) (i + 1 + 1) (lines (drop next text))) ≡ gatherFrom ns [] 1 (lines text)
-      unfolding gatherFrom
+      turned : atLine (counted n c) (i + 1) ns (d .had) (λ n. linesFrom ns (n ∷ d .had) (i + 1 + 1) (lines (drop next text))) ≡ linesFrom ns [] 1 (lines text)
+      unfolding linesFrom
       turned =
           let l = line-entry text start e q in
           let p = l .0 in
@@ -179,54 +198,56 @@ module _ {text ns measures : List ℕ} {start i : ℕ} (d : Kept text ns measure
       kept-less = omega (arith, line-entry text start e q .1, extent-pos text start h)
 
       module _ {y : Found} (f : Located ns n y) where
-        pub kept-absent : y ≡ Nothing → Tells ns (gatherFrom ns [] 1 (lines text)) (AboutLift (i + 1)) measures
+        pub kept-absent : y ≡ Nothing → Tells ns (lines text) (AboutLift (i + 1)) measures
         kept-absent g = let a : among n ns ≡ false = rw g at f in sym (rw a at turned)
 
         module _ {k : ℕ} (g : y ≡ At k) where
           pub kept-place : (k < length ns) × (getD ns k 0 ≡ n)
           kept-place = rw g at f
 
-          value-at : getD measures k 0 ≡ slot (d .counts) n
-          value-at = let p = kept-place in rw (d .filled, slot-at (d .counts) ns k (p .0), p .1)
+          value-at : getD measures k 0 ≡ slot (d .done) n
+          value-at = let p = kept-place in rw (d .filled, slot-at (d .done) ns k (p .0), p .1)
 
-          pub kept-had : (getD measures k 0 ≡ 0 → ⊥) → Tells ns (gatherFrom ns [] 1 (lines text)) (AboutLift (i + 1)) measures
+          pub kept-had : (getD measures k 0 ≡ 0 → ⊥) → Tells ns (lines text) (AboutLift (i + 1)) measures
           kept-had o =
-              let a : had n (d .counts) ≡ true = slot-had (d .counts) n (λ z. o (value-at ∙ z)) in
+              let a : among n (d .had) ≡ true = d .heard n ∙ ap not (ne-eqb (slot (d .done) n) 0 (λ z. o (value-at ∙ z))) in
               sym (rw (a, and-false (among n ns)) at turned)
 
           pub kept-turn : Rising 0 ns → getD measures k 0 ≡ 0 → {m : ℕ} {measures′ : List ℕ} → m ≡ hundreds c → measures′ ≡ set measures k (m + 1) → Kept text ns measures′ next (i + 1)
           kept-turn r o {m} {measures′} u v =
               let p = kept-place in
-              let a : had n (d .counts) ≡ false = slot-free (d .counts) n (sym value-at ∙ o) in
+              let l = line-entry text start e q in
+              let w = l .1 in
+              let s : slot (d .done) n ≡ 0 = sym value-at ∙ o in
+              let a : among n (d .had) ≡ false = d .heard n ∙ ap not (eq-eqb (slot (d .done) n) 0 s) in
               let b : among n ns ≡ true = present n ns k (p .0) (p .1) in
               record {
-                counts = countOf n c ∷ d .counts;
+                done = d .done ++ (line (drop start text) ∷ []);
+                had = n ∷ d .had;
+                parted = append-assoc (d .done) (line (drop start text) ∷ []) _ ∙ rw w (rw (step-lines text start h) at (d .parted));
                 same = rw (b, a) at turned;
-                many = omega (arith, d .many);
-                filled = rw (v, u, d .filled) (set-slot (countOf n c) (d .counts) 0 ns r k (p .0) (p .1));
+                many = omega (arith, d .many, length-append (d .done) (line (drop start text) ∷ []));
+                heard = heard-turn (d .done) _ (l .0) (d .had) s (d .heard);
+                filled = rw (v, u, d .filled) (set-slot (d .done) _ (l .0) s 0 ns r k (p .0) (p .1));
                 few = omega (arith, d .few, kept-less);
-                small = λ j. rw v (bound j (eqb j k) refl);
               }
-            where
-              bound : (j : ℕ) (t : Bool) → eqb j k ≡ t → getD (set measures k (m + 1)) j 0 ≤ largestSum + 1
-              bound j true w =
-                  let s : getD (set measures k (m + 1)) k 0 ≡ m + 1 = getD-set-same measures k (m + 1) 0 (omega (arith, kept-length, kept-place .0)) in
-                  rw (eqb-true j k w, s) (omega (arith, kept-small, u))
-              bound j false w = rw (getD-set-other measures k j (m + 1) 0 (eqb-false j k w)) (d .small j)
 
 -- ---- the lifts with the measures of their slots
 
-lift-slot : (cs : List Count) (l : Lift) → liftWith l (slot cs (l .number)) ≡ measured cs l
+lift-slot : (xs : List (List ℕ)) (l : Lift) → liftWith l (slot xs (l .number)) ≡ measured xs l
 unfolding slot measured
 lift-slot [] l = refl
-lift-slot (c ∷ cs) l = go (eqb (c .lift) (l .number)) (lift-slot cs l)
+lift-slot (x ∷ xs) l = go (entry x) (lift-slot xs l)
   where
-    go : (t : Bool) → liftWith l (slot cs (l .number)) ≡ measured cs l
-        → liftWith l (cond t (hundreds (c .count) + 1) (slot cs (l .number))) ≡ cond t (remeasured l (hundreds (c .count))) (measured cs l)
-    go true r = let m : hundreds (c .count) + 1 - 1 ≡ hundreds (c .count) = omega arith in rw (ne-eqb (hundreds (c .count) + 1) 0 (omega arith), m)
-    go false r = r
+    go : (e : Entry) → liftWith l (slot xs (l .number)) ≡ measured xs l → liftWith l (slotBy e (l .number) (slot xs (l .number))) ≡ measuredBy e l (measured xs l)
+    go malformed r = r
+    go (counted n c) r = by (eqb n (l .number))
+      where
+        by : (t : Bool) → liftWith l (cond t (hundreds c + 1) (slot xs (l .number))) ≡ cond t (remeasured l (hundreds c)) (measured xs l)
+        by true = let m : hundreds c + 1 - 1 ≡ hundreds c = omega arith in rw (ne-eqb (hundreds c + 1) 0 (omega arith), m)
+        by false = r
 
-pub lifts-slots : (cs : List Count) (ls : List Lift) → liftsWith ls (slots (numbersOf ls) cs) ≡ map (measured cs) ls
+pub lifts-slots : (xs : List (List ℕ)) (ls : List Lift) → liftsWith ls (slots (numbersOf ls) xs) ≡ map (measured xs) ls
 unfolding liftsWith
-lifts-slots cs [] = refl
-lifts-slots cs (l ∷ ls) = rw (lift-slot cs l, lifts-slots cs ls)
+lifts-slots xs [] = refl
+lifts-slots xs (l ∷ ls) = rw (lift-slot xs l, lifts-slots xs ls)

@@ -7,17 +7,17 @@ use Rattle.sheet.specs.Reading.{fault, readFrom}
 use Rattle.sheet.specs.Rounds.{those, sends}
 use Rattle.sheet.specs.Refusal.{firstRound, ofRounds, verdict}
 use Rattle.counts.specs.Text.{lines, before, behind, allDigits, valueFrom, entry}
-use Rattle.counts.specs.Counts.{among, had, gatherFrom, measured, result}
+use Rattle.counts.specs.Counts.{among, linesFrom, measured, answer}
 use Rattle.counts.specs.Worked.{allRight, lineCases, formCases, resultCases}
 
 pub right-lines : allRight lineCases ≡ true
-unfolding totalBy lifts written fault readFrom those sends firstRound ofRounds verdict lines before behind allDigits valueFrom entry among had gatherFrom measured result
+unfolding totalBy lifts written fault readFrom those sends firstRound ofRounds verdict lines before behind allDigits valueFrom entry among linesFrom measured answer
 right-lines = refl
 
 pub right-forms : allRight formCases ≡ true
-unfolding lifts fault readFrom lines before behind allDigits valueFrom entry among had gatherFrom result
+unfolding lifts fault readFrom lines before behind allDigits valueFrom entry among linesFrom answer
 right-forms = refl
 
 pub right-results : allRight resultCases ≡ true
-unfolding totalBy lifts written fault readFrom those sends firstRound ofRounds verdict lines before behind allDigits valueFrom entry among had gatherFrom measured result
+unfolding totalBy lifts written fault readFrom those sends firstRound ofRounds verdict lines before behind allDigits valueFrom entry among linesFrom measured answer
 right-results = refl

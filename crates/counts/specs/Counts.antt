@@ -5,8 +5,8 @@ use mathlib.Core.List.{List, [], _∷_, map}
 use lib.Dec.{eqb}
 use lib.ListN.{length}
 use Rattle.sheet.specs.Sheet.{Lift, lifts, sheetOf}
-use Rattle.sheet.specs.Reading.{Numbered, numbered, Reading, faulty, sound, ofWords}
-use Rattle.sheet.specs.Refusal.{Verdict, refused as unfit, fits, verdict, refusal}
+use Rattle.sheet.specs.Reading.{numbered, Reading, faulty, sound, ofWords}
+use Rattle.sheet.specs.Refusal.{Verdict, refused, fits, firstWord, verdict, refusal}
 use Rattle.sheet.specs.Reply.{Reply, replied, ofRefusal}
 use Rattle.counts.specs.Text.{lines, Entry, counted, malformed, entry}
 use Rattle.counts.specs.declared.Answer.{Answer}
@@ -14,46 +14,28 @@ use Rattle.counts.specs.declared.Answer.the-variants.{Sheet, Form, Lift 
 
 -- ---- the lines one by one
 
--- the count of a lift, by a line
-pub record Count : Type 0 where
-  pub lift : ℕ
-  pub count : ℕ
-
-abbrev pub countOf : ℕ → ℕ → Count
-countOf n c = record { lift = n; count = c }
-
 -- whether a number is among some numbers
 unfoldable pub among : ℕ → List ℕ → Bool
 among n [] = false
 among n (m ∷ ms) = eqb m n || among n ms
 
--- whether a lift "had a line already"
-unfoldable pub had : ℕ → List Count → Bool
-had n [] = false
-had n (c ∷ cs) = eqb (c .lift) n || had n cs
-
--- what the lines come to: a refusal, or their counts, the last line's first
-pub data Gathering : Type 0 where
-  stopped : Numbered → Gathering
-  gathered : List Count → Gathering
-
--- line i, from what it says, the numbers of the sheet's lifts, the counts before it and what follows if it is taken:
+-- line i, from what it says, the numbers of the sheet's lifts, those that had a line, and what follows if it is taken:
 -- "14 when a line has another form, 15 when its lift is absent from the sheet or had a line already"
-abbrev pub atLine : Entry → ℕ → List ℕ → List Count → (ℕ → ℕ → Gathering) → Gathering
-atLine malformed i ns cs next = stopped (numbered 14 i)
-atLine (counted n c) i ns cs next = cond (among n ns && not (had n cs)) (next n c) (stopped (numbered 15 i))
+abbrev pub atLine : Entry → ℕ → List ℕ → List ℕ → (ℕ → Reading) → Reading
+atLine malformed i ns had next = faulty (numbered 14 i)
+atLine (counted n c) i ns had next = cond (among n ns && not (among n had)) (next n) (faulty (numbered 15 i))
 
--- the lines from line i on
-unfoldable pub gatherFrom : List ℕ → List Count → ℕ → List (List ℕ) → Gathering
-gatherFrom ns cs i [] = gathered cs
-gatherFrom ns cs i (l ∷ ls) = atLine (entry l) i ns cs (λ n c. gatherFrom ns (countOf n c ∷ cs) (i + 1) ls)
+-- the first faulty line's refusal from line i on, or that none is faulty
+unfoldable pub linesFrom : List ℕ → List ℕ → ℕ → List (List ℕ) → Reading
+linesFrom ns had i [] = sound
+linesFrom ns had i (x ∷ xs) = atLine (entry x) i ns had (λ n. linesFrom ns (n ∷ had) (i + 1) xs)
 
 abbrev pub numbersOf : List Lift → List ℕ
 numbersOf ls = map (λ l. l .number) ls
 
--- all lines of a text: "both come line by line, 14 first, .. place the line from 1"
-abbrev pub gather : List Lift → List ℕ → Gathering
-gather ls text = gatherFrom (numbersOf ls) [] 1 (lines text)
+-- "both come line by line, 14 first, .. place the line from 1"
+abbrev pub ofLines : List Lift → List (List ℕ) → Reading
+ofLines ls xs = linesFrom (numbersOf ls) [] 1 xs
 
 -- ---- the new measures
 
@@ -65,58 +47,45 @@ hundreds c = (c + 99) / 100
 abbrev pub remeasured : Lift → ℕ → Lift
 remeasured l m = record { number = l .number; old = l .old; new = record { round = l .new .round; measure = m }; held = l .held }
 
--- "the lift's new measure becomes the count divided by 100, rounded up. Lifts without a line keep theirs."
-unfoldable pub measured : List Count → Lift → Lift
+-- "the lift's new measure becomes the count divided by 100, rounded up", if the line is the lift's
+abbrev pub measuredBy : Entry → Lift → Lift → Lift
+measuredBy (counted n c) l other = cond (eqb n (l .number)) (remeasured l (hundreds c)) other
+measuredBy malformed l other = other
+
+-- "Lifts without a line keep theirs."
+unfoldable pub measured : List (List ℕ) → Lift → Lift
 measured [] l = l
-measured (c ∷ cs) l = cond (eqb (c .lift) (l .number)) (remeasured l (hundreds (c .count))) (measured cs l)
+measured (x ∷ xs) l = measuredBy (entry x) l (measured xs l)
+
+-- the words of the lifts with the counts of a text
+abbrev pub renewed : List ℕ → List ℕ → List ℕ
+renewed sheet text = sheetOf (map (measured (lines text)) (lifts sheet))
 
 -- ---- the order of the refusals
 
--- what a sheet and a text come to: a refusal, or how many lines were taken and the sheet then
-pub data Result : Type 0 where
-  refused : Numbered → Result
-  renewed : (lines : ℕ) → (sheet : List ℕ) → Result
-
--- "The result is then checked as any sheet."
-abbrev pub ofVerdict : ℕ → List ℕ → Verdict → Result
-ofVerdict n ws (unfit x) = refused x
-ofVerdict n ws (fits a b) = renewed n ws
-
-abbrev pub checked : ℕ → List ℕ → Result
-checked n ws = ofVerdict n ws (verdict ws)
-
--- the sheet with the counts of the lines
-abbrev pub ofLines : List Lift → Gathering → Result
-ofLines ls (stopped x) = refused x
-ofLines ls (gathered cs) = checked (length cs) (sheetOf (map (measured cs) ls))
-
--- the lines "after 1 to 6 for the sheet lent"
-abbrev pub afterWords : Reading → Result → Result
-afterWords (faulty x) r = refused x
-afterWords sound r = r
-
-unfoldable pub result : List ℕ → List ℕ → Result
-result sheet text = afterWords (ofWords sheet) (ofLines (lifts sheet) (gather (lifts sheet) text))
+-- 14 and 15 "after 1 to 6 for the sheet lent"; "The result is then checked as any sheet."
+unfoldable pub answer : List ℕ → List ℕ → Verdict
+answer sheet text = firstWord (ofWords sheet) (firstWord (ofLines (lifts sheet) (lines text)) (verdict (renewed sheet text)))
 
 -- ---- the reply and the sheet at the end
 
 -- "a call that chooses nothing and names no other answer replies 0, how many lines it took .., and 0 words read"
-abbrev pub replyOf : Result → Reply
-replyOf (refused x) = ofRefusal x
-replyOf (renewed n ws) = replied n 0
+abbrev pub replyOf : ℕ → Verdict → Reply
+replyOf n (refused x) = ofRefusal x
+replyOf n (fits a b) = replied n 0
 
 -- "Any refusal writes nothing."
-abbrev pub outputOf : List ℕ → Result → List ℕ
-outputOf ws (refused x) = ws
-outputOf ws (renewed n us) = us
+abbrev pub outputOf : List ℕ → List ℕ → Verdict → List ℕ
+outputOf before after (refused x) = before
+outputOf before after (fits a b) = after
 
 -- the reply to a sheet and a text
 abbrev pub reply : List ℕ → List ℕ → Reply
-reply sheet text = replyOf (result sheet text)
+reply sheet text = replyOf (length (lines text)) (answer sheet text)
 
 -- the sheet after the call
 abbrev pub output : List ℕ → List ℕ → List ℕ
-output sheet text = outputOf sheet (result sheet text)
+output sheet text = outputOf sheet (renewed sheet text) (answer sheet text)
 
 -- ---- the code's answer
 

@@ -1,16 +1,16 @@
 -- The text as the code reads it: numbers clamped, lines by positions, new measures in one slot for each lift.
-use Prim.Native.Nat.{ℕ, suc, _+_, _*_, _-_, _≤_, _<_}
+use Prim.Native.Nat.{ℕ, suc, _+_, _-_, _<_}
 use mathlib.Core.Path.{_≡_}
 use mathlib.Core.Bool.{Bool, true, false, cond}
 use mathlib.Core.List.{List, [], _∷_, map}
 use lib.Dec.{eqb, ltb}
 use lib.ListN.{length, getD, take, drop}
-use Rattle.sheet.specs.Sheet.{largestSum, Lift, newKind, placeOf, placeWord}
-use Rattle.sheet.specs.Reading.{numbered}
+use Rattle.sheet.specs.Sheet.{newKind, placeOf, Lift, lifts, placeWord, sheetOf}
+use Rattle.sheet.specs.Reading.{numbered, faulty, sound}
 use Rattle.sheet.specs.declared.Found.{Found}
 use Rattle.sheet.specs.declared.Found.the-variants.{At, Nothing}
 use Rattle.counts.specs.Text.{LF, endingCR, isDigit, value, empty, isNumber, Entry, counted, malformed, entry}
-use Rattle.counts.specs.Counts.{Count, hundreds, remeasured, among, Gathering, stopped, gathered}
+use Rattle.counts.specs.Counts.{among, linesFrom, hundreds, remeasured}
 use Rattle.counts.specs.declared.Digits.{Digits}
 use Rattle.counts.specs.declared.Number.{Number}
 use Rattle.counts.specs.declared.Number.the-variants.{Is, Not}
@@ -86,28 +86,30 @@ abbrev pub Located : List ℕ → ℕ → Found → Type 0
 Located ns n (At k) = (k < length ns) × (getD ns k 0 ≡ n)
 Located ns n Nothing = among n ns ≡ false
 
--- a lift's slot: 0 without a line, else one more than its new measure
-unfoldable pub slot : List Count → ℕ → ℕ
+-- a lift's slot: 0 without a line, else one more than the new measure
+abbrev pub slotBy : Entry → ℕ → ℕ → ℕ
+slotBy (counted m c) n other = cond (eqb m n) (hundreds c + 1) other
+slotBy malformed n other = other
+
+unfoldable pub slot : List (List ℕ) → ℕ → ℕ
 slot [] n = 0
-slot (c ∷ cs) n = cond (eqb (c .lift) n) (hundreds (c .count) + 1) (slot cs n)
+slot (x ∷ xs) n = slotBy (entry x) n (slot xs n)
 
 -- the slots of the lifts with these numbers
-abbrev pub slots : List ℕ → List Count → List ℕ
-slots ns cs = map (slot cs) ns
+abbrev pub slots : List ℕ → List (List ℕ) → List ℕ
+slots ns xs = map (slot xs) ns
 
--- lines that were all taken: how many, and the slots that they leave
-pub record AllTaken (ns : List ℕ) (o : Gathering) (n : ℕ) (measures : List ℕ) : Type 0 where
-  pub counts : List Count
-  pub is : o ≡ gathered counts
-  pub many : n ≡ length counts
-  pub filled : measures ≡ slots ns counts
-  pub small : (k : ℕ) → getD measures k 0 ≤ largestSum + 1
+-- lines that are all taken: how many, and the slots that they leave
+pub record AllTaken (ns : List ℕ) (xs : List (List ℕ)) (n : ℕ) (measures : List ℕ) : Type 0 where
+  pub sound : linesFrom ns [] 1 xs ≡ sound
+  pub many : n ≡ length xs
+  pub filled : measures ≡ slots ns xs
 
 -- what the answer to the lines says
-abbrev pub Tells : List ℕ → Gathering → Lines → List ℕ → Type 0
-Tells ns o (Form i) measures = o ≡ stopped (numbered 14 i)
-Tells ns o (AboutLift i) measures = o ≡ stopped (numbered 15 i)
-Tells ns o (All n) measures = AllTaken ns o n measures
+abbrev pub Tells : List ℕ → List (List ℕ) → Lines → List ℕ → Type 0
+Tells ns xs (Form i) measures = linesFrom ns [] 1 xs ≡ faulty (numbered 14 i)
+Tells ns xs (AboutLift i) measures = linesFrom ns [] 1 xs ≡ faulty (numbered 15 i)
+Tells ns xs (All n) measures = AllTaken ns xs n measures
 
 -- ---- the sheet
 
@@ -123,3 +125,7 @@ liftWith l v = cond (eqb v 0) l (remeasured l (v - 1))
 unfoldable pub liftsWith : List Lift → List ℕ → List Lift
 liftsWith [] vs = []
 liftsWith (l ∷ ls) vs = liftWith l (getD vs 0 0) ∷ liftsWith ls (drop 1 vs)
+
+-- a sheet's words with the measures of slots
+abbrev pub sheetWith : List ℕ → List ℕ → List ℕ
+sheetWith ws vs = sheetOf (liftsWith (lifts ws) vs)

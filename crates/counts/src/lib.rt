@@ -4,12 +4,12 @@ ghost use mathlib.Core.Bool.{true};
 ghost use mathlib.Core.List.{[], map};
 ghost use Prim.Native.Nat.{ℕ, _+_, _-_, _*_, _≤_, _<_};
 ghost use lib.ListN.{length, getD, drop, replicate};
-ghost use Rattle.sheet.specs.Sheet.{largestSum, lifts, sheetOf};
+ghost use Rattle.sheet.specs.Sheet.{largestSum, lifts};
 ghost use Rattle.sheet.specs.Reading.{Legible};
 ghost use Rattle.sheet.specs.Refusal.{verdict, told as saidOf};
 ghost use Rattle.counts.specs.Text.{lines, isDigit, largestCount};
-ghost use Rattle.counts.specs.Counts.{gatherFrom, numbersOf, hundreds as hundredsOf, gather as gatherOf, checked, ofLines, replyOf, outputOf, reply, output, told};
-ghost use Rattle.counts.specs.Scan.{cap, clamp, digitsAt, numberAt, endingAt, lineAt, Rising, Located, Tells, wordWith, liftsWith};
+ghost use Rattle.counts.specs.Counts.{numbersOf, hundreds as hundredsOf, replyOf, outputOf, reply, output, told};
+ghost use Rattle.counts.specs.Scan.{cap, clamp, digitsAt, numberAt, endingAt, lineAt, Rising, Located, Tells, wordWith, sheetWith};
 use sheet::Checked;
 use sheet::Field;
 use sheet::Found;
@@ -231,7 +231,7 @@ fn find(numbers: &[u64], n: u64) -> Found
 fn gather(text: &[u8], numbers: &[u64], measures: &mut [u64]) -> Lines
     requires { ⌜ Rising 0 (now numbers) ⌝ }
     requires { ⌜ now measures ≡ replicate (length (now numbers)) 0 ⌝ }
-    ensures { λ r. ⌜ Tells (now (numbers .entry)) (gatherFrom (now (numbers .entry)) [] 1 (lines (now (text .entry)))) r (now (measures .exit)) ⌝ }
+    ensures { λ r. ⌜ Tells (now (numbers .entry)) (lines (now (text .entry))) r (now (measures .exit)) ⌝ }
 {
     let mut at = 0;
     let mut i = 0;
@@ -288,7 +288,7 @@ fn put(sheet: &mut [u32], measures: &[u64])
     requires { ⌜ Legible (now sheet) ⌝ }
     requires { ⌜ length (now measures) ≡ length (lifts (now sheet)) ⌝ }
     requires { ⌜ ((k : ℕ) → getD (now measures) k 0 ≤ largestSum + 1) ⌝ }
-    ensures { λ _. ⌜ now (sheet .exit) ≡ sheetOf (liftsWith (lifts (now (sheet .entry))) (now (measures .entry))) ⌝ }
+    ensures { λ _. ⌜ now (sheet .exit) ≡ sheetWith (now (sheet .entry)) (now (measures .entry)) ⌝ }
 {
     let mut i = 0;
     let mut k = 0;
@@ -318,8 +318,8 @@ fn renewed(words: &mut [u32], sheet: &[u32], measures: &[u64]) -> Checked
     requires { ⌜ length (now words) ≡ length (now sheet) ⌝ }
     requires { ⌜ length (now measures) ≡ length (lifts (now sheet)) ⌝ }
     requires { ⌜ ((k : ℕ) → getD (now measures) k 0 ≤ largestSum + 1) ⌝ }
-    ensures words { λ _. ⌜ now (words .exit) ≡ sheetOf (liftsWith (lifts (now (sheet .entry))) (now (measures .entry))) ⌝ }
-    ensures said { λ r. ⌜ saidOf r ≡ verdict (sheetOf (liftsWith (lifts (now (sheet .entry))) (now (measures .entry)))) ⌝ }
+    ensures words { λ _. ⌜ now (words .exit) ≡ sheetWith (now (sheet .entry)) (now (measures .entry)) ⌝ }
+    ensures said { λ r. ⌜ saidOf r ≡ verdict (sheetWith (now (sheet .entry)) (now (measures .entry))) ⌝ }
 {
     copy(sheet, words);
     put(words, measures);
@@ -332,8 +332,8 @@ fn finish(sheet: &mut [u32], words: &mut [u32], measures: &[u64], lines: usize) 
     requires { ⌜ length (now words) ≡ length (now sheet) ⌝ }
     requires { ⌜ length (now measures) ≡ length (lifts (now sheet)) ⌝ }
     requires { ⌜ ((k : ℕ) → getD (now measures) k 0 ≤ largestSum + 1) ⌝ }
-    ensures replied { λ r. ⌜ told r ≡ replyOf (checked lines (sheetOf (liftsWith (lifts (now (sheet .entry))) (now (measures .entry))))) ⌝ }
-    ensures written { λ _. ⌜ now (sheet .exit) ≡ outputOf (now (sheet .entry)) (checked lines (sheetOf (liftsWith (lifts (now (sheet .entry))) (now (measures .entry))))) ⌝ }
+    ensures replied { λ r. ⌜ told r ≡ replyOf lines (verdict (sheetWith (now (sheet .entry)) (now (measures .entry)))) ⌝ }
+    ensures written { λ _. ⌜ now (sheet .exit) ≡ outputOf (now (sheet .entry)) (sheetWith (now (sheet .entry)) (now (measures .entry))) (verdict (sheetWith (now (sheet .entry)) (now (measures .entry)))) ⌝ }
 {
     match renewed(words, sheet, measures) {
         Checked::Refused(x) => Answer::Sheet(x),
@@ -356,8 +356,8 @@ fn take_lines(
     requires { ⌜ length (now numbers) ≡ length (lifts (now sheet)) ⌝ }
     requires { ⌜ now measures ≡ replicate (length (lifts (now sheet))) 0 ⌝ }
     requires { ⌜ length (now words) ≡ length (now sheet) ⌝ }
-    ensures replied { λ r. ⌜ told r ≡ replyOf (ofLines (lifts (now (sheet .entry))) (gatherOf (lifts (now (sheet .entry))) (now (text .entry)))) ⌝ }
-    ensures written { λ _. ⌜ now (sheet .exit) ≡ outputOf (now (sheet .entry)) (ofLines (lifts (now (sheet .entry))) (gatherOf (lifts (now (sheet .entry))) (now (text .entry)))) ⌝ }
+    ensures replied { λ r. ⌜ told r ≡ reply (now (sheet .entry)) (now (text .entry)) ⌝ }
+    ensures written { λ _. ⌜ now (sheet .exit) ≡ output (now (sheet .entry)) (now (text .entry)) ⌝ }
 {
     number_lifts(sheet, numbers);
     match gather(text, numbers, measures) {
@@ -370,8 +370,8 @@ fn take_lines(
 // The counts of a text taken into a legible sheet.
 fn take_legible(sheet: &mut [u32], text: &[u8]) -> Answer
     requires { ⌜ Legible (now sheet) ⌝ }
-    ensures replied { λ r. ⌜ told r ≡ replyOf (ofLines (lifts (now (sheet .entry))) (gatherOf (lifts (now (sheet .entry))) (now (text .entry)))) ⌝ }
-    ensures written { λ _. ⌜ now (sheet .exit) ≡ outputOf (now (sheet .entry)) (ofLines (lifts (now (sheet .entry))) (gatherOf (lifts (now (sheet .entry))) (now (text .entry)))) ⌝ }
+    ensures replied { λ r. ⌜ told r ≡ reply (now (sheet .entry)) (now (text .entry)) ⌝ }
+    ensures written { λ _. ⌜ now (sheet .exit) ≡ output (now (sheet .entry)) (now (text .entry)) ⌝ }
 {
     let n = sheet::size(sheet);
     let long = sheet.len();

@@ -135,7 +135,7 @@ legible-words {ws} e = go (eqb (length ws) 0) (ltb longest (length ws)) refl e
     go false true h q = let z : _≡_ {A = ℕ} 0 1 = cc in absurd (omega arith)
     go false false h q = record { short = ltb-false longest (length ws) h; read = q }
 
-words-legible : {ws : List ℕ} → Legible ws → sound ≡ ofWords ws
+pub words-legible : {ws : List ℕ} → Legible ws → sound ≡ ofWords ws
 words-legible {ws} l = at-reading ws (some ws (l .read)) (l .short) (sym (l .read))
   where
     some : (ws : List ℕ) → reading ws ≡ sound → length ws ≡ 0 → ⊥

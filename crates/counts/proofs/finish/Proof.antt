@@ -24,7 +24,7 @@ same-length-2 : tie.Need-same-length-2
 same-length-2 c = search needs
 
 returns : tie.Need-returns
-returns c = finish-refused (c .before .before .before .before .before .before .before .before .before .before .before .args .lines) _ (c .before .before .before .before .before .renewed .ensures .1) _ (c .before .x .given .1)
+returns c = finish-refused (c .before .before .before .before .before .before .before .before .before .before .before .args .lines) _ _ (c .before .before .before .before .before .renewed .ensures .1) (c .before .x .given .1)
 
 same-length-3 : tie.Need-same-length-3
 same-length-3 c = search needs
@@ -33,7 +33,7 @@ same-length-4 : tie.Need-same-length-4
 same-length-4 c = search needs
 
 returns-2 : tie.Need-returns-2
-returns-2 c = finish-fits (c .before .before .before .before .before .before .before .before .before .before .before .before .before .before .before .args .lines) _ (c .before .before .before .before .before .before .before .before .before .renewed .ensures .1) _ (c .before .before .before .before .before .enum-told .given .1) (c .before .before .copy .ensures ∙ c .before .before .before .before .before .before .before .before .before .renewed .ensures .0)
+returns-2 c = finish-fits (c .before .before .before .before .before .before .before .before .before .before .before .before .before .before .before .args .lines) _ _ (c .before .before .before .before .before .before .before .before .before .renewed .ensures .1) (c .before .before .before .before .before .enum-told .given .1) (c .before .before .copy .ensures ∙ c .before .before .before .before .before .before .before .before .before .renewed .ensures .0)
 
 pub finish-spec : {M : Type 1} → statement M
 finish-spec =

@@ -1,7 +1,5 @@
 -- `counts::take` meets its contract: a refusal of the words of the sheet lent, or the lines. Assumes nothing.
-use mathlib.Core.Path.{ap, _∙_}
-use Rattle.counts.specs.Counts.{replyOf, outputOf}
-use Rattle.counts.proofs.Taking.{at-word, at-lines, at-legible}
+use Rattle.counts.proofs.Taking.{at-word, at-legible}
 use borrow.Author.Needs.{needs}
 use Rattle.counts.proofs.take.Statement.{statement}
 use Rattle.counts.proofs.take.Tie as tie
@@ -28,7 +26,7 @@ same-length-2 : tie.Need-same-length-2
 same-length-2 c = search needs
 
 returns-2 : tie.Need-returns-2
-returns-2 c = let e = at-lines (c .before .before .before .before .before .before .before .before .before .before .args .sheet .now) (c .before .before .before .before .before .before .before .before .before .before .args .text .now) (c .before .before .before .before .before .before .read .ensures) (c .before .before .before .before .enum-told .given .1) in (c .before .before .take-legible .ensures .0 ∙ ap replyOf e, c .before .before .take-legible .ensures .1 ∙ ap (outputOf (c .before .before .before .before .before .before .before .before .before .before .args .sheet .now)) e)
+returns-2 c = c .before .before .take-legible .ensures
 
 pub take-spec : {M : Type 1} → statement M
 take-spec =
