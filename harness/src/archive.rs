@@ -1,6 +1,6 @@
 //! The proved functions of the archive, behind safe wrappers.
 
-use crate::reference::{Choice, Outcome, Reply, Round, Verdict};
+use crate::reference::{Choice, Intake, Outcome, Reply, Round, Verdict};
 
 extern "C" {
     fn jengpilo_draw_below(
@@ -48,6 +48,15 @@ extern "C" {
         start: usize,
         out: *mut u32,
         out_len: usize,
+        second: *mut usize,
+        third: *mut usize,
+    ) -> u32;
+
+    fn jengpilo_counts_take(
+        sheet: *mut u32,
+        sheet_len: usize,
+        text: *const u8,
+        text_len: usize,
         second: *mut usize,
         third: *mut usize,
     ) -> u32;
@@ -169,6 +178,31 @@ pub fn choose_panel(sheet: &[u32], words: &[u64], start: usize, out: &mut [u32])
     assert_eq!(third, 0, "a refusal counted words");
     let place = second;
     Reply::Refused { number, place }
+}
+
+/// Takes each line's count as its lift's new measure.
+pub fn take_counts(sheet: &mut [u32], text: &[u8]) -> Intake {
+    let unwritten = usize::MAX - 7;
+    let (mut second, mut third) = (unwritten, unwritten);
+    // SAFETY: sheet, text and both numbers live through the call, and each length is its slice's.
+    let number = unsafe {
+        jengpilo_counts_take(
+            sheet.as_mut_ptr(),
+            sheet.len(),
+            text.as_ptr(),
+            text.len(),
+            &mut second,
+            &mut third,
+        )
+    };
+    assert_eq!(third, 0, "words were counted where none is read");
+    match number {
+        0 => Intake::Taken { lines: second },
+        _ => Intake::Refused {
+            number,
+            place: second,
+        },
+    }
 }
 
 /// How many donors the round has.

@@ -1,10 +1,12 @@
-//! The reference, written from the scope document alone.
+//! The reference, written from the scope and the requests alone.
 
+mod counts;
 mod draw;
 mod panel;
 mod round;
 mod sheet;
 
+pub use counts::{take_counts, Intake};
 pub use draw::draw;
 pub use panel::{choose_panel, new_rounds, report, NewRound, Reply};
 pub use round::{choose, choose_by, Choice, Lift, Outcome, Round};

@@ -123,7 +123,7 @@ pub(super) fn place_of(payload: u32) -> (u32, u32) {
 }
 
 /// Reads the lifts; refusals 1 to 6.
-fn read_lifts(sheet: &[u32]) -> Result<Vec<SheetLift>, Refusal> {
+pub(super) fn read_lifts(sheet: &[u32]) -> Result<Vec<SheetLift>, Refusal> {
     if sheet.is_empty() || sheet.len() > LONGEST_SHEET {
         return Err((1, sheet.len()));
     }
