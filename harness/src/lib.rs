@@ -5,4 +5,5 @@ pub mod examples;
 pub mod reference;
 pub mod seeded;
 pub mod sheets;
+pub mod texts;
 pub mod ways;

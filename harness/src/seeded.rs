@@ -29,6 +29,13 @@ impl Seeded {
         self.below(count as u64) as usize
     }
 
+    /// Puts the items into any order.
+    pub fn shuffle<T>(&mut self, items: &mut [T]) {
+        for last in (1..items.len()).rev() {
+            items.swap(last, self.index(last + 1));
+        }
+    }
+
     /// A bound: small, near the largest, at or beside a power of two, or any of a bit width.
     pub fn bound(&mut self) -> u64 {
         let top_bit = 1 << self.below(64);

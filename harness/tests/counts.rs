@@ -1,8 +1,11 @@
-//! Compares the archive's taking of counts with the reference: the request's numbers, its traps and short texts.
+//! Compares the archive's taking of counts with the reference: the request's numbers, its traps, short texts and seeded texts.
 
 use harness::reference::{write_sheet, Intake, SheetLift};
-use harness::sheets::{held, lift, numbered, EXAMPLE, NONE};
+use harness::seeded::Seeded;
+use harness::sheets::{fitting_lifts, held, lift, numbered, EXAMPLE, NONE};
+use harness::texts::{any_lent, any_text, names_of_sorts, text_of, Case};
 use harness::{archive, reference};
+use std::collections::BTreeMap;
 
 /// The largest sum and measure.
 const LARGEST: u32 = 1_048_576;
@@ -461,6 +464,37 @@ fn sums_of_the_result_are_above_0() {
     assert_eq!(agreed_on(&lifts, "1,0\n2,0\n3,0"), refused(9, 6));
 }
 
+/// The lifts of the longest sheet: 4,096 in 100 rounds of one donor each.
+fn longest() -> Vec<SheetLift> {
+    let place = |number: u32| (number % 100 + 1, 25_000);
+    let lifts = (0..4_096).map(|number| lift(place(number), place(number + 7)));
+    let mut lifts: Vec<SheetLift> = lifts.collect();
+    lifts[3_000..3_100]
+        .iter_mut()
+        .for_each(|lift| lift.held = true);
+    lifts
+}
+
+#[test]
+fn every_lift_of_the_longest_sheet_is_counted() {
+    let mut lifts = numbered(&longest(), 1);
+    let lent = write_sheet(&lifts);
+    assert_eq!(lent.len(), 12_389);
+    for lift in &mut lifts {
+        lift.new_measure = lift.number;
+    }
+    let counted = (taken(4_096), write_sheet(&lifts));
+    for _ in 0..2 {
+        let text = text_of(&lifts);
+        assert!(agreed_sheet(&lent, &text) == counted);
+        for (line, number) in [("4097,1", 15), ("1,1", 15), ("4096,1", 15), ("1", 14)] {
+            let more = [&text, line.as_bytes()].concat();
+            assert_eq!(agreed_sheet(&lent, &more).0, refused(number, 4_097));
+        }
+        lifts.reverse();
+    }
+}
+
 /// Bytes of which every text is tried.
 const TRIED: [u8; 6] = *b"012,\r\n";
 
@@ -493,4 +527,52 @@ fn all_short_texts_agree() {
     // No line; one line; lifts 1 and 2 with a digit each, in both orders.
     assert_eq!(counts[0], 1 + above_0 + 2 * 2 * 2);
     assert_eq!(counts[9], zero + 2 * (3 * 3 - 2 * 2));
+}
+
+#[test]
+fn seeded_texts_agree() {
+    let mut seeded = Seeded::new(15);
+    let mut numbers = [0; 16];
+    let mut with_faulty_text = [0; 16];
+    let names = names_of_sorts().into_iter();
+    let mut sorts: BTreeMap<&str, u32> = names.map(|name| (name, 0)).collect();
+    for _ in 0..200_000 {
+        let lent = any_lent(&mut seeded);
+        let (reply, _) = agreed_sheet(&lent.sheet, &lent.text);
+        let case = Case::new(lent, reply);
+        numbers[number_of(reply)] += 1;
+        if case.is_refused_unread() && case.has_faulty_text() {
+            with_faulty_text[number_of(reply)] += 1;
+        }
+        for name in case.sorts() {
+            *sorts.get_mut(name).expect("all names are there") += 1;
+        }
+    }
+    assert!(numbers[0] >= 20_000, "{numbers:?}");
+    let given = [&numbers[1..=10], &numbers[14..=15]].concat();
+    assert!(given.iter().all(|&texts| texts >= 500), "{numbers:?}");
+    let unread = &with_faulty_text[1..=6];
+    assert!(unread.iter().all(|&texts| texts >= 500), "{unread:?}");
+    assert!(sorts.values().all(|&texts| texts >= 500), "{sorts:#?}");
+}
+
+#[test]
+fn full_sheets_agree() {
+    let mut seeded = Seeded::new(16);
+    let mut longest = 0;
+    for _ in 0..60 {
+        let lifts = fitting_lifts(&mut seeded, 4_096, 20_000);
+        let sheet = write_sheet(&lifts);
+        longest += usize::from(sheet.len() == 12_389);
+        let mut counted = lifts.clone();
+        seeded.shuffle(&mut counted);
+        counted.truncate(3_870);
+        for lift in &mut counted {
+            lift.new_measure = lift.new_measure.div_ceil(2);
+        }
+        let (reply, _) = agreed_sheet(&sheet, &text_of(&counted));
+        assert_eq!(reply, taken(3_870));
+        agreed_sheet(&sheet, &any_text(&mut seeded, &lifts));
+    }
+    assert!(longest >= 20, "{longest}");
 }

@@ -72,12 +72,12 @@ pub fn damaged_sheet(seeded: &mut Seeded, mut lifts: Lifts, most: usize) -> Shee
 }
 
 /// One of the items, of which there is at least one, to be changed.
-fn one_of<'a, T>(seeded: &mut Seeded, items: &'a mut [T]) -> &'a mut T {
+pub(crate) fn one_of<'a, T>(seeded: &mut Seeded, items: &'a mut [T]) -> &'a mut T {
     &mut items[seeded.index(items.len())]
 }
 
 /// One of the items that are as wanted, if there are any.
-fn any_such<'a, T>(
+pub(crate) fn any_such<'a, T>(
     seeded: &mut Seeded,
     items: &'a mut [T],
     wanted: fn(&T) -> bool,
@@ -163,7 +163,7 @@ fn empty_old_round(seeded: &mut Seeded, lifts: &mut Lifts) {
 }
 
 /// A new round's measures are all 0.
-fn empty_new_round(seeded: &mut Seeded, lifts: &mut Lifts) {
+pub(crate) fn empty_new_round(seeded: &mut Seeded, lifts: &mut Lifts) {
     let round = one_of(seeded, lifts).new_round;
     for measure in new_measures(lifts, round) {
         *measure = 0;
@@ -178,7 +178,7 @@ fn fill_old_round(seeded: &mut Seeded, lifts: &mut Lifts) {
 }
 
 /// A new round's sum is the largest or one more.
-fn fill_new_round(seeded: &mut Seeded, lifts: &mut Lifts) {
+pub(crate) fn fill_new_round(seeded: &mut Seeded, lifts: &mut Lifts) {
     let round = one_of(seeded, lifts).new_round;
     fill(seeded, new_measures(lifts, round));
 }

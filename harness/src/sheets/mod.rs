@@ -10,6 +10,8 @@ pub use damage::{damaged_sheet, LIFT_DAMAGES, WORD_DAMAGES};
 pub use lifelike::{lifelike_lifts, Town};
 pub use words::{add_round_words, add_sheet_words};
 
+pub(crate) use damage::{any_such, empty_new_round, fill_new_round, one_of};
+
 use crate::reference::{SheetLift, MOST_ROUNDS};
 use crate::seeded::Seeded;
 use std::collections::BTreeSet;
@@ -51,7 +53,7 @@ pub fn fitting_lifts(seeded: &mut Seeded, count: usize, most_rounds: usize) -> V
 }
 
 /// One of the items, of which there is at least one.
-fn any<T: Copy>(seeded: &mut Seeded, items: &[T]) -> T {
+pub(crate) fn any<T: Copy>(seeded: &mut Seeded, items: &[T]) -> T {
     items[seeded.index(items.len())]
 }
 
@@ -110,13 +112,13 @@ fn measure_old_round(seeded: &mut Seeded, lifts: &mut [SheetLift], round: u32) {
 }
 
 /// The measures of a new round.
-fn new_measures(lifts: &mut [SheetLift], round: u32) -> Vec<&mut u32> {
+pub(crate) fn new_measures(lifts: &mut [SheetLift], round: u32) -> Vec<&mut u32> {
     let lifts = lifts.iter_mut().filter(|lift| lift.new_round == round);
     lifts.map(|lift| &mut lift.new_measure).collect()
 }
 
 /// Splits a round's sum into its measures.
-fn measure(seeded: &mut Seeded, measures: Vec<&mut u32>) {
+pub(crate) fn measure(seeded: &mut Seeded, measures: Vec<&mut u32>) {
     let sum = seeded.round_sum();
     let parts = seeded.split(sum, measures.len().max(1));
     for (measure, part) in measures.into_iter().zip(parts) {
