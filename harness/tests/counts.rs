@@ -3,8 +3,8 @@
 use harness::reference::{write_sheet, Intake, SheetLift};
 use harness::seeded::Seeded;
 use harness::sheets::{fitting_lifts, held, lift, numbered, EXAMPLE, NONE};
-use harness::texts::{any_lent, any_text, names_of_sorts, text_of, Case};
-use harness::{archive, reference};
+use harness::texts::{any_lent, any_text, names_of_sorts, text_of, Case, Lent};
+use harness::{archive, plain, reference};
 use std::collections::BTreeMap;
 
 /// The largest sum and measure.
@@ -575,4 +575,15 @@ fn full_sheets_agree() {
         agreed_sheet(&sheet, &any_text(&mut seeded, &lifts));
     }
     assert!(longest >= 20, "{longest}");
+}
+
+#[test]
+fn plain_version_agrees() {
+    let mut seeded = Seeded::new(17);
+    for _ in 0..50_000 {
+        let Lent { sheet, text, .. } = any_lent(&mut seeded);
+        let expected = run(reference::take_counts, &sheet, &text);
+        let plain = run(plain::take_counts, &sheet, &text);
+        assert!(plain == expected, "{}\n{sheet:08X?}", text.escape_ascii());
+    }
 }
