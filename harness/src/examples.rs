@@ -1,8 +1,9 @@
-//! The examples: folders with the program's two files.
+//! The examples: folders with the program's two files, one of them also with counts.
 
 use crate::reference::write_sheet;
 use crate::seeded::Seeded;
 use crate::sheets::{lifelike_lifts, Town, EXAMPLE};
+use crate::texts::lifelike_text;
 
 /// The name of the sheet's file.
 pub const SHEET_FILE: &str = "sheet.bin";
@@ -10,8 +11,12 @@ pub const SHEET_FILE: &str = "sheet.bin";
 /// The name of the file of random words.
 pub const WORDS_FILE: &str = "words.bin";
 
-/// The seed of the quarter.
+/// The name of the file of counts.
+pub const COUNTS_FILE: &str = "counts.csv";
+
+/// The seed of the quarter, and of its counts.
 const SEED: u64 = 2031;
+const COUNTS_SEED: u64 = 2032;
 
 /// How many random words the quarter has.
 const WORDS: usize = 4_096;
@@ -23,11 +28,12 @@ const TOWN: Town = Town {
     redrawn: 12,
 };
 
-/// A folder, named from the repository's top, and the bytes of its two files.
+/// A folder, named from the repository's top, and the bytes of its files.
 pub struct Example {
     pub folder: &'static str,
     pub sheet: Vec<u8>,
     pub words: Vec<u8>,
+    pub counts: Option<Vec<u8>>,
 }
 
 /// All examples; the check of the program runs it on the small one's copy.
@@ -45,18 +51,21 @@ fn small(folder: &'static str) -> Example {
         folder,
         sheet: sheet_bytes(&EXAMPLE),
         words: words_bytes(&[10, 0]),
+        counts: None,
     }
 }
 
 /// A quarter of a whole town.
 fn quarter(folder: &'static str) -> Example {
     let mut seeded = Seeded::new(SEED);
-    let sheet = write_sheet(&lifelike_lifts(&mut seeded, TOWN));
+    let lifts = lifelike_lifts(&mut seeded, TOWN);
     let words: Vec<u64> = (0..WORDS).map(|_| seeded.word()).collect();
+    let counts = lifelike_text(&mut Seeded::new(COUNTS_SEED), &lifts);
     Example {
         folder,
-        sheet: sheet_bytes(&sheet),
+        sheet: sheet_bytes(&write_sheet(&lifts)),
         words: words_bytes(&words),
+        counts: Some(counts),
     }
 }
 

@@ -1,6 +1,6 @@
 //! Writes the examples' files: make examples
 
-use harness::examples::{examples, SHEET_FILE, WORDS_FILE};
+use harness::examples::{examples, COUNTS_FILE, SHEET_FILE, WORDS_FILE};
 use std::path::Path;
 use std::{fs, io};
 
@@ -11,6 +11,9 @@ fn main() -> io::Result<()> {
         fs::create_dir_all(&folder)?;
         fs::write(folder.join(SHEET_FILE), example.sheet)?;
         fs::write(folder.join(WORDS_FILE), example.words)?;
+        if let Some(counts) = example.counts {
+            fs::write(folder.join(COUNTS_FILE), counts)?;
+        }
     }
     Ok(())
 }

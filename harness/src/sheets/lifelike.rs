@@ -78,7 +78,7 @@ fn door_count(seeded: &mut Seeded) -> u32 {
 }
 
 /// The next quarter's door count: mostly a little more or less, at times far more or less.
-fn next_count(seeded: &mut Seeded, count: u32) -> u32 {
+pub(crate) fn next_count(seeded: &mut Seeded, count: u32) -> u32 {
     let percent = match seeded.below(20) {
         0 => 30 + seeded.below(221),
         _ => 80 + seeded.below(46),

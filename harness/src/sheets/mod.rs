@@ -11,6 +11,7 @@ pub use lifelike::{lifelike_lifts, Town};
 pub use words::{add_round_words, add_sheet_words};
 
 pub(crate) use damage::{any_such, empty_new_round, fill_new_round, one_of};
+pub(crate) use lifelike::next_count;
 
 use crate::reference::{SheetLift, MOST_ROUNDS};
 use crate::seeded::Seeded;

@@ -8,7 +8,7 @@ pub use sorts::{names_of_sorts, Case};
 use crate::reference::{write_sheet, SheetLift, LARGEST_SUM};
 use crate::seeded::Seeded;
 use crate::sheets::{any, any_lifts, any_such, empty_new_round, fill_new_round};
-use crate::sheets::{measure, new_measures, one_of, LIFT_DAMAGES, WORD_DAMAGES};
+use crate::sheets::{measure, new_measures, next_count, one_of, LIFT_DAMAGES, WORD_DAMAGES};
 use damage::{damage_entries, damage_lines, damage_text};
 use std::collections::BTreeSet;
 
@@ -90,10 +90,28 @@ pub fn any_text(seeded: &mut Seeded, lifts: &[SheetLift]) -> Vec<u8> {
     text
 }
 
-/// A text of a line for each of these lifts in this order, with the counts of their new measures and CR LF endings.
+/// A text of a line for each of these lifts in this order, with the counts of their new measures.
 pub fn text_of(lifts: &[SheetLift]) -> Vec<u8> {
-    let line = |lift: &SheetLift| format!("{},{}\r\n", lift.number, 100 * lift.new_measure);
-    lifts.iter().map(line).collect::<String>().into_bytes()
+    let entry = |lift: &SheetLift| (lift.number, 100 * lift.new_measure);
+    text_of_entries(lifts.iter().map(entry))
+}
+
+/// A quarter's counts in the order of the sheet: withdrawn lifts and one in a hundred of the others have no line.
+pub fn lifelike_text(seeded: &mut Seeded, lifts: &[SheetLift]) -> Vec<u8> {
+    let mut lifts = lifts.to_vec();
+    lifts.retain(|lift| lift.new_round > 0 && seeded.below(100) > 0);
+    let entries = lifts.iter().map(|lift| {
+        let hundreds = next_count(seeded, lift.new_measure);
+        let count = (100 * hundreds).saturating_sub(seeded.below(100) as u32);
+        (lift.number, count)
+    });
+    text_of_entries(entries)
+}
+
+/// The text of lift numbers and counts, the lines ended by CR LF.
+fn text_of_entries(entries: impl Iterator<Item = (u32, u32)>) -> Vec<u8> {
+    let lines = entries.map(|(number, count)| format!("{number},{count}\r\n"));
+    lines.collect::<String>().into_bytes()
 }
 
 /// Entries for some of the lifts or all, in any order.
