@@ -22,7 +22,7 @@ const COUNTS_SEED: u64 = 2032;
 const WORDS: usize = 4_096;
 
 /// The town of the quarter.
-const TOWN: Town = Town {
+pub const TOWN: Town = Town {
     lifts: 3_870,
     rounds: 84,
     redrawn: 12,

@@ -1,13 +1,15 @@
-//! Times the archive's choice for a whole sheet beside the reference's: make bench
+//! Times the archive's choice for a whole sheet and its taking of counts beside others: make bench
 
-use harness::reference::{write_sheet, Reply};
+use harness::examples::TOWN;
+use harness::reference::{write_sheet, Intake, Reply, SheetLift};
 use harness::seeded::Seeded;
 use harness::sheets::{lifelike_lifts, Town};
-use harness::{archive, reference};
+use harness::texts::text_of;
+use harness::{archive, plain, reference};
 use std::hint::black_box;
 use std::time::{Duration, Instant};
 
-/// How often each choice is made.
+/// How often each choice is made and each text taken.
 const REPETITIONS: usize = 200;
 
 /// How many random words are lent.
@@ -23,7 +25,24 @@ type Chooser = fn(&[u32], &[u64], usize, &mut [u32]) -> Reply;
 /// The archive's choice and the reference's.
 const CHOOSERS: [Chooser; 2] = [archive::choose_panel, reference::choose_panel];
 
+/// Takes counts into a sheet.
+type Taker = fn(&mut [u32], &[u8]) -> Intake;
+
+/// The archive's taking of counts, the one written for speed and the reference's.
+const TAKERS: [Taker; 3] = [
+    archive::take_counts,
+    plain::take_counts,
+    reference::take_counts,
+];
+
 fn main() {
+    print_choices();
+    println!();
+    print_takings();
+}
+
+/// Prints the times of choices from sheets of three sizes.
+fn print_choices() {
     println!("lifts  words  archive us  reference us  archive/reference");
     for lifts in [256, 1_024, 4_096] {
         let town = Town {
@@ -31,12 +50,30 @@ fn main() {
             rounds: ROUNDS,
             redrawn: REDRAWN,
         };
-        print_times(town);
+        print_choice_times(town);
     }
 }
 
-/// Prints the median times for a sheet of this size.
-fn print_times(town: Town) {
+/// Prints the times of taking a line for each lift of a town, in the order of the sheet and in another.
+fn print_takings() {
+    println!(
+        "lines  order     archive us  plain us  reference us  archive/plain  archive/reference"
+    );
+    let mut lifts = lifelike_lifts(&mut Seeded::new(1), TOWN);
+    let sheet = write_sheet(&lifts);
+    lifts.iter_mut().for_each(halve);
+    print_taking_times(&sheet, &lifts, "rising");
+    Seeded::new(2).shuffle(&mut lifts);
+    print_taking_times(&sheet, &lifts, "shuffled");
+}
+
+/// Halves a lift's new measure, rounded up.
+fn halve(lift: &mut SheetLift) {
+    lift.new_measure = lift.new_measure.div_ceil(2);
+}
+
+/// Prints the median times for a choice from a sheet of this size.
+fn print_choice_times(town: Town) {
     let mut seeded = Seeded::new(town.lifts as u64);
     let sheet = write_sheet(&lifelike_lifts(&mut seeded, town));
     let words: Vec<u64> = (0..WORDS).map(|_| seeded.word()).collect();
@@ -70,6 +107,46 @@ fn median_times(sheet: &[u32], words: &[u64]) -> [f64; 2] {
         for (choose, (out, times)) in CHOOSERS.iter().zip(outs.iter_mut().zip(&mut times)) {
             let begun = Instant::now();
             black_box(choose(black_box(sheet), black_box(words), 0, out));
+            times.push(begun.elapsed());
+        }
+    }
+    times.map(median)
+}
+
+/// Prints the median times for taking a line for each of these lifts, in an order of this name.
+fn print_taking_times(sheet: &[u32], lifts: &[SheetLift], order: &str) {
+    let text = text_of(lifts);
+    let lines = lines_taken(sheet, &text);
+    let [archive, plain, reference] = median_taking_times(sheet, &text);
+    let ratios = [archive / plain, archive / reference];
+    println!(
+        "{lines:5}  {order:8}  {archive:10.1}  {plain:8.1}  {reference:12.1}  {:13.3}  {:17.3}",
+        ratios[0], ratios[1]
+    );
+}
+
+/// How many lines are taken; all takers agree on them and on the sheet.
+fn lines_taken(sheet: &[u32], text: &[u8]) -> usize {
+    let [proved, plain, expected] = TAKERS.map(|take| {
+        let mut sheet = sheet.to_vec();
+        (take(&mut sheet, text), sheet)
+    });
+    assert!(proved == expected && plain == expected);
+    match expected.0 {
+        Intake::Taken { lines } => lines,
+        reply => panic!("{reply:?}"),
+    }
+}
+
+/// The median time of each taker in microseconds, all called in turn on the same sheet.
+fn median_taking_times(sheet: &[u32], text: &[u8]) -> [f64; 3] {
+    let mut lent = sheet.to_vec();
+    let mut times = TAKERS.map(|_| Vec::new());
+    for _ in 0..REPETITIONS {
+        for (take, times) in TAKERS.iter().zip(&mut times) {
+            lent.copy_from_slice(sheet);
+            let begun = Instant::now();
+            black_box(take(black_box(&mut lent), black_box(text)));
             times.push(begun.elapsed());
         }
     }
