@@ -1,14 +1,16 @@
 -- Binary search among rising numbers.
-use Prim.Native.Nat.{ℕ, zero, suc, _+_, _≤_, _<_}
+use Prim.Native.Nat.{ℕ, zero, suc, _+_, _*_, _-_, _/_, _^_, _≤_, _<_}
 use mathlib.Core.Path.{_≡_, refl, sym, ap, _∙_}
-use mathlib.Core.Bool.{Bool, true, false, cond, _||_}
+use mathlib.Core.Bool.{Bool, true, false, cond, _&&_, _||_}
 use mathlib.Core.List.{List, [], _∷_}
 use native.Mathlib.Omega.{arith}
-use lib.Dec.{eqb, ltb}
+use lib.Dec.{eqb, leb, ltb}
 use lib.ListN.{length, getD}
-use borrow.Author.Tests.{eqb-true, eqb-false, eq-eqb, ne-eqb, ltb-true, ltb-false}
+use borrow.Author.Tests.{eqb-true, eqb-false, eq-eqb, ne-eqb, leb-true, leb-false, ltb-true, ltb-false, lt-ltb, le-ltb}
+use Rattle.laws.specs.Sum.{indicator}
+use Rattle.sheet.specs.Sheet.{mostLifts}
 use Rattle.counts.specs.Counts.{among}
-use Rattle.counts.specs.Scan.{Rising}
+use Rattle.counts.specs.Scan.{Rising, Numbers, cutAt}
 
 -- each number is above the bound, and above those before it
 pub rising-above : (b : ℕ) (ns : List ℕ) → Rising b ns → (j : ℕ) → j < length ns → b < getD ns j 0
@@ -24,42 +26,92 @@ rising-lt b (n ∷ ns) r i zero l h = absurd (omega arith)
 rising-lt b (n ∷ ns) r zero (suc j) l h = rising-above n ns (r .1) j (omega arith)
 rising-lt b (n ∷ ns) r (suc i) (suc j) l h = rising-lt n ns (r .1) i j (omega arith) (omega arith)
 
--- the number stands, if anywhere, from low up and below high
-pub record Narrowed (ns : List ℕ) (n low high : ℕ) : Type 0 where
-  pub ordered : low ≤ high
-  pub inside : high ≤ length ns
+-- the number stands, if anywhere, from low up and below low + size
+pub record Narrowed (ns : List ℕ) (n low size : ℕ) : Type 0 where
+  pub some : 1 ≤ size
+  pub inside : low + size ≤ mostLifts
   pub below : (j : ℕ) → j < low → getD ns j 0 < n
-  pub above : (j : ℕ) → high ≤ j → j < length ns → n < getD ns j 0
+  pub above : (j : ℕ) → low + size ≤ j → j < length ns → n < getD ns j 0
 
-pub narrowed-none : (ns : List ℕ) (n : ℕ) → Narrowed ns n 0 (length ns)
-narrowed-none ns n = record { ordered = omega arith; inside = omega arith; below = λ j h. absurd (omega arith); above = λ j h k. absurd (omega arith) }
+pub narrowed-none : {ns : List ℕ} (n : ℕ) → Numbers ns → Narrowed ns n 0 4096
+narrowed-none n r = record { some = omega arith; inside = omega arith; below = λ j h. absurd (omega arith); above = λ j h k. absurd (omega (arith, r .few)) }
 
-module _ {ns : List ℕ} {n low high m : ℕ} (r : Rising 0 ns) (d : Narrowed ns n low high) (a : low ≤ m) (z : m < high) where
-  pub narrowed-up : getD ns m 0 < n → Narrowed ns n (m + 1) high
-  narrowed-up h = record { ordered = omega arith; inside = d .inside; below = λ j l. go j l (eqb j m) refl; above = d .above }
+module _ {ns : List ℕ} {n low size half : ℕ} (r : Numbers ns) (d : Narrowed ns n low size) (more : 1 < size) (e : half ≡ size / 2) where
+  pub narrowed-room : low + half ≤ mostLifts
+  narrowed-room = omega (arith, d .inside)
+
+  -- from the middle up
+  up : low + half < length ns → getD ns (low + half) 0 ≤ n → Narrowed ns n (low + half) (size - half)
+  up h l =
+      record {
+        some = omega arith;
+        inside = omega (arith, d .inside);
+        below = λ j k. let z = rising-lt 0 ns (r .rising) j (low + half) k h in omega arith;
+        above = λ j k m. d .above j (omega arith) m;
+      }
+
+  -- below the middle, which all behind it exceed
+  down : ((j : ℕ) → low + half ≤ j → j < length ns → n < getD ns j 0) → Narrowed ns n low (size - half)
+  down h = record { some = omega arith; inside = omega (arith, d .inside); below = d .below; above = λ j k m. h j (omega arith) m }
+
+  rises : low + half < length ns → n < getD ns (low + half) 0 → (j : ℕ) → low + half ≤ j → j < length ns → n < getD ns j 0
+  rises h l j k m = go (eqb j (low + half)) refl
     where
-      go : (j : ℕ) → j < m + 1 → (t : Bool) → eqb j m ≡ t → getD ns j 0 < n
-      go j l true e = rw (eqb-true j m e) h
-      go j l false e = let q = eqb-false j m e in let i = d .inside in let k = rising-lt 0 ns r j m (omega arith) (omega arith) in omega arith
+      go : (u : Bool) → eqb j (low + half) ≡ u → n < getD ns j 0
+      go true v = rw (eqb-true j (low + half) v) l
+      go false v = let o = eqb-false j (low + half) v in let z = rising-lt 0 ns (r .rising) (low + half) j (omega arith) m in omega arith
 
-  pub narrowed-down : (getD ns m 0 ≡ n → ⊥) → n ≤ getD ns m 0 → Narrowed ns n low m
-  narrowed-down o h = record { ordered = a; inside = omega (arith, d .inside); below = d .below; above = λ j l k. go j l k (eqb j m) refl }
+  pub narrowed-turn : {low′ : ℕ} → low′ ≡ cutAt ns low half n → Narrowed ns n low′ (size - half)
+  narrowed-turn q = rw q (go (ltb (low + half) (length ns)) refl (leb (getD ns (low + half) 0) n) refl)
     where
-      go : (j : ℕ) → m ≤ j → j < length ns → (t : Bool) → eqb j m ≡ t → n < getD ns j 0
-      go j l k true e = rw (eqb-true j m e) (omega arith)
-      go j l k false e = let q = eqb-false j m e in let i = rising-lt 0 ns r m j (omega arith) k in omega arith
+      go : (t : Bool) → ltb (low + half) (length ns) ≡ t → (u : Bool) → leb (getD ns (low + half) 0) n ≡ u → Narrowed ns n (cond (t && u) (low + half) low) (size - half)
+      go true v true w = up (ltb-true _ _ v) (leb-true _ _ w)
+      go true v false w = down (rises (ltb-true _ _ v) (leb-false _ _ w))
+      go false v u w = down (λ j k m. absurd (omega (arith, ltb-false (low + half) (length ns) v)))
+
+-- ---- the cut
+
+pub cut-past : (ns : List ℕ) (low half n : ℕ) → length ns ≤ low + half → low ≡ cutAt ns low half n
+cut-past ns low half n h = rw (le-ltb (low + half) (length ns) h)
+
+pub cut-inside : (ns : List ℕ) (low half n : ℕ) {t : ℕ} → low + half < length ns → t ≡ indicator (leb (getD ns (low + half) 0) n) → low + half * t ≡ cutAt ns low half n
+cut-inside ns low half n {t} h e = rw (lt-ltb (low + half) (length ns) h, e) (go (leb (getD ns (low + half) 0) n))
+  where
+    go : (u : Bool) → low + half * indicator u ≡ cond u (low + half) low
+    go true = omega arith
+    go false = omega arith
+
+pub cut-le : (half m n : ℕ) {t : ℕ} → t ≡ indicator (leb m n) → half * t ≤ half
+cut-le half m n e = rw e (go (leb m n))
+  where
+    go : (u : Bool) → half * indicator u ≤ half
+    go true = omega arith
+    go false = omega arith
+
+-- ---- at most, by a carry
+
+pub carried : (m n : ℕ) → m < 2 ^ 32 → n < 2 ^ 32 → (n + (2 ^ 32 - m)) / 2 ^ 32 ≡ indicator (leb m n)
+carried m n h k = go (leb m n) refl
+  where
+    go : (t : Bool) → leb m n ≡ t → (n + (2 ^ 32 - m)) / 2 ^ 32 ≡ indicator t
+    go true e = let l = leb-true m n e in omega arith
+    go false e = let l = leb-false m n e in omega arith
+
+-- ---- the end of the search
 
 absent : (n : ℕ) (ns : List ℕ) → ((j : ℕ) → j < length ns → getD ns j 0 ≡ n → ⊥) → among n ns ≡ false
 unfolding among
 absent n [] h = refl
 absent n (m ∷ ms) h = rw (ne-eqb m n (h 0 (omega arith))) (absent n ms (λ j l. h (suc j) (omega arith)))
 
-pub narrowed-end : {ns : List ℕ} {n low high : ℕ} → Narrowed ns n low high → high ≤ low → among n ns ≡ false
-narrowed-end {ns} {n} {low} {high} d h = absent n ns (λ j l e. go j l e (ltb j low) refl)
-  where
-    go : (j : ℕ) → j < length ns → getD ns j 0 ≡ n → (t : Bool) → ltb j low ≡ t → ⊥
-    go j l e true q = let k = d .below j (ltb-true j low q) in omega arith
-    go j l e false q = let k = d .above j (omega (arith, ltb-false j low q)) l in omega arith
+module _ {ns : List ℕ} {n low size : ℕ} (d : Narrowed ns n low size) (one : size ≤ 1) where
+  pub narrowed-end : (low < length ns → getD ns low 0 ≡ n → ⊥) → among n ns ≡ false
+  narrowed-end o = absent n ns (λ j l e. go j l e (ltb j low) refl (eqb j low) refl)
+    where
+      go : (j : ℕ) → j < length ns → getD ns j 0 ≡ n → (t : Bool) → ltb j low ≡ t → (u : Bool) → eqb j low ≡ u → ⊥
+      go j l e true q u v = let k = d .below j (ltb-true j low q) in omega arith
+      go j l e false q true v = let w = eqb-true j low v in o (omega arith) (rw w at e)
+      go j l e false q false v = let k = d .above j (omega (arith, d .some, ltb-false j low q, eqb-false j low v)) l in omega arith
 
 -- a number that stands in the list is among it
 pub present : (n : ℕ) (ns : List ℕ) (k : ℕ) → k < length ns → getD ns k 0 ≡ n → among n ns ≡ true

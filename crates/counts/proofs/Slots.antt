@@ -1,5 +1,5 @@
 -- The loop over the lines: a slot for each lift holds the measure of its line, and the lines left decide the outcome.
-use Prim.Native.Nat.{ℕ, zero, suc, _+_, _-_, _≤_, _<_}
+use Prim.Native.Nat.{ℕ, zero, suc, _+_, _-_, _^_, _≤_, _<_}
 use mathlib.Core.Path.{_≡_, refl, sym, ap, ap₂, _∙_}
 use mathlib.Core.Bool.{Bool, true, false, cond, not, _&&_, _||_}
 use mathlib.Core.List.{List, [], _∷_, _++_, map, append-assoc, append-nil}
@@ -13,7 +13,7 @@ use Rattle.sheet.specs.declared.Found.{Found}
 use Rattle.sheet.specs.declared.Found.the-variants.{At, Nothing}
 use Rattle.counts.specs.Text.{LF, lines, before, behind, allDigits, value, empty, isNumber, largestLift, largestCount, Entry, counted, malformed, entry}
 use Rattle.counts.specs.Counts.{among, atLine, linesFrom, numbersOf, hundreds, remeasured, measuredBy, measured}
-use Rattle.counts.specs.Scan.{line, extent, lineOf, lineAt, Rising, Located, slotBy, slot, slots, Tells, liftWith, liftsWith}
+use Rattle.counts.specs.Scan.{line, extent, lineOf, lineAt, Rising, Numbers, Located, slotBy, slot, slots, Tells, liftWith, liftsWith}
 use Rattle.counts.specs.declared.Line.{Line}
 use Rattle.counts.specs.declared.Line.the-variants.{Entry as EntryLine, Malformed}
 use Rattle.counts.specs.declared.Lines.the-variants.{Form, Lift as AboutLift, All}
@@ -111,19 +111,28 @@ module _ (text : List ℕ) (start : ℕ) where
         go (counted a b) h = cc
         go malformed h = refl
 
--- a line's count is small
-count-small : (l : List ℕ) {n c : ℕ} → entry l ≡ counted n c → c ≤ largestCount
+-- a line's numbers are small
+entry-small : (l : List ℕ) {n c : ℕ} → entry l ≡ counted n c → (n ≤ largestLift) × (c ≤ largestCount)
 unfolding entry
-count-small l {n} {c} e = go (isNumber largestLift (before l)) (isNumber largestCount (behind l)) refl e
+entry-small l {n} {c} e = go (isNumber largestLift (before l)) refl (isNumber largestCount (behind l)) refl e
   where
-    go : (a b : Bool) → isNumber largestCount (behind l) ≡ b → cond (a && b) (counted (value (before l)) (value (behind l))) malformed ≡ counted n c → c ≤ largestCount
-    go true true h q =
-        let s = and-split (not (empty (behind l))) _ h in
-        let t = and-split (allDigits (behind l)) _ (s .1) in
-        let v : value (behind l) ≡ c = cc in
-        omega (arith, leb-true (value (behind l)) largestCount (t .1))
-    go true false h q = let z : _≡_ {A = ℕ} 0 1 = cc in absurd (omega arith)
-    go false b h q = let z : _≡_ {A = ℕ} 0 1 = cc in absurd (omega arith)
+    within : (limit : ℕ) (bs : List ℕ) → isNumber limit bs ≡ true → value bs ≤ limit
+    within limit bs h = leb-true (value bs) limit (and-split (allDigits bs) _ (and-split (not (empty bs)) _ h .1) .1)
+
+    go : (a : Bool) → isNumber largestLift (before l) ≡ a → (b : Bool) → isNumber largestCount (behind l) ≡ b
+        → cond (a && b) (counted (value (before l)) (value (behind l))) malformed ≡ counted n c → (n ≤ largestLift) × (c ≤ largestCount)
+    go true h true k q =
+        let v : value (before l) ≡ n = cc in
+        let w : value (behind l) ≡ c = cc in
+        (omega (arith, within largestLift (before l) h), omega (arith, within largestCount (behind l) k))
+    go true h false k q = let z : _≡_ {A = ℕ} 0 1 = cc in absurd (omega arith)
+    go false h b k q = let z : _≡_ {A = ℕ} 0 1 = cc in absurd (omega arith)
+
+lift-small : (l : List ℕ) {n c : ℕ} → entry l ≡ counted n c → n < 2 ^ 32
+lift-small l e = omega (arith, entry-small l e .0)
+
+count-small : (l : List ℕ) {n c : ℕ} → entry l ≡ counted n c → c ≤ largestCount
+count-small l e = entry-small l e .1
 
 -- every slot is small
 pub slot-small : (xs : List (List ℕ)) (n : ℕ) → slot xs n ≤ largestSum + 1
@@ -194,6 +203,9 @@ module _ {text ns measures : List ℕ} {start i : ℕ} (d : Kept text ns measure
       pub kept-small : c ≤ largestCount
       kept-small = count-small (line (drop start text)) (line-entry text start e q .0)
 
+      pub kept-lift : n < 2 ^ 32
+      kept-lift = lift-small (line (drop start text)) (line-entry text start e q .0)
+
       pub kept-less : start < next
       kept-less = omega (arith, line-entry text start e q .1, extent-pos text start h)
 
@@ -213,7 +225,7 @@ module _ {text ns measures : List ℕ} {start i : ℕ} (d : Kept text ns measure
               let a : among n (d .had) ≡ true = d .heard n ∙ ap not (ne-eqb (slot (d .done) n) 0 (λ z. o (value-at ∙ z))) in
               sym (rw (a, and-false (among n ns)) at turned)
 
-          pub kept-turn : Rising 0 ns → getD measures k 0 ≡ 0 → {m : ℕ} {measures′ : List ℕ} → m ≡ hundreds c → measures′ ≡ set measures k (m + 1) → Kept text ns measures′ next (i + 1)
+          pub kept-turn : Numbers ns → getD measures k 0 ≡ 0 → {m : ℕ} {measures′ : List ℕ} → m ≡ hundreds c → measures′ ≡ set measures k (m + 1) → Kept text ns measures′ next (i + 1)
           kept-turn r o {m} {measures′} u v =
               let p = kept-place in
               let l = line-entry text start e q in
@@ -228,7 +240,7 @@ module _ {text ns measures : List ℕ} {start i : ℕ} (d : Kept text ns measure
                 same = rw (b, a) at turned;
                 many = omega (arith, d .many, length-append (d .done) (line (drop start text) ∷ []));
                 heard = heard-turn (d .done) _ (l .0) (d .had) s (d .heard);
-                filled = rw (v, u, d .filled) (set-slot (d .done) _ (l .0) s 0 ns r k (p .0) (p .1));
+                filled = rw (v, u, d .filled) (set-slot (d .done) _ (l .0) s 0 ns (r .rising) k (p .0) (p .1));
                 few = omega (arith, d .few, kept-less);
               }
 

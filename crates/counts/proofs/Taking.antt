@@ -1,5 +1,5 @@
 -- The ways out of the call: the sheet lent, the lines, the result.
-use Prim.Native.Nat.{ℕ, zero, suc, _+_, _≤_, _<_}
+use Prim.Native.Nat.{ℕ, zero, suc, _+_, _^_, _≤_, _<_}
 use mathlib.Core.Path.{_≡_, refl, sym, ap, ap₂, _∙_}
 use mathlib.Core.List.{List, [], _∷_, map}
 use native.Mathlib.Omega.{arith}
@@ -19,7 +19,7 @@ use Rattle.sheet.specs.declared.Judged.{Judged}
 use Rattle.sheet.specs.declared.Judged.the-variants.{Faulty, Sound}
 use Rattle.counts.specs.Text.{lines}
 use Rattle.counts.specs.Counts.{numbersOf, ofLines, renewed, answer, replyOf, outputOf, reply, output, told}
-use Rattle.counts.specs.Scan.{Rising, slot, slots, AllTaken, Tells, liftsWith, sheetWith}
+use Rattle.counts.specs.Scan.{Rising, Numbers, slot, slots, AllTaken, Tells, liftsWith, sheetWith}
 use Rattle.counts.specs.declared.Answer.{Answer}
 use Rattle.counts.specs.declared.Answer.the-variants.{Sheet as AboutSheet, Form as FormAt, Lift as LiftAt, Taken}
 use Rattle.counts.specs.declared.Lines.{Lines}
@@ -49,8 +49,16 @@ unfolding Listed Rising
 listed-rising n [] h = tt
 listed-rising n (l ∷ ls) h = (h .0 .rises, listed-rising (l .number) ls (h .1))
 
-pub rising : {ws : List ℕ} → Legible ws → Rising 0 (numbersOf (lifts ws))
-rising {ws} l = listed-rising 0 (lifts ws) (read-theorem ws (l .read) .listable .listed)
+listed-small : (n : ℕ) (ls : List Lift) → Listed n ls → (k : ℕ) → getD (numbersOf ls) k 0 < 2 ^ 32
+unfolding Listed
+listed-small n [] h k = omega arith
+listed-small n (l ∷ ls) h zero = omega (arith, h .0 .payload)
+listed-small n (l ∷ ls) h (suc k) = listed-small (l .number) ls (h .1) k
+
+pub numbers : {ws : List ℕ} → Legible ws → Numbers (numbersOf (lifts ws))
+numbers {ws} l =
+    let t = read-theorem ws (l .read) .listable in
+    record { rising = listed-rising 0 (lifts ws) (t .listed); few = rw (length-map (lifts ws) (λ l. l .number)) (t .few); small = listed-small 0 (lifts ws) (t .listed) }
 
 -- ---- the result
 

@@ -1,11 +1,11 @@
 -- The text as the code reads it: numbers clamped, lines by positions, new measures in one slot for each lift.
-use Prim.Native.Nat.{ℕ, suc, _+_, _-_, _<_}
+use Prim.Native.Nat.{ℕ, suc, _+_, _-_, _^_, _≤_, _<_}
 use mathlib.Core.Path.{_≡_}
-use mathlib.Core.Bool.{Bool, true, false, cond}
+use mathlib.Core.Bool.{Bool, true, false, cond, _&&_}
 use mathlib.Core.List.{List, [], _∷_, map}
-use lib.Dec.{eqb, ltb}
+use lib.Dec.{eqb, leb, ltb}
 use lib.ListN.{length, getD, take, drop}
-use Rattle.sheet.specs.Sheet.{newKind, placeOf, Lift, lifts, placeWord, sheetOf}
+use Rattle.sheet.specs.Sheet.{mostLifts, newKind, placeOf, Lift, lifts, placeWord, sheetOf}
 use Rattle.sheet.specs.Reading.{numbered, faulty, sound}
 use Rattle.sheet.specs.declared.Found.{Found}
 use Rattle.sheet.specs.declared.Found.the-variants.{At, Nothing}
@@ -80,6 +80,16 @@ lineAt text i = lineOf (entry (line (drop i text))) (i + extent (drop i text))
 unfoldable pub Rising : ℕ → List ℕ → Type 0
 Rising n [] = Unit {0}
 Rising n (m ∷ ms) = (n < m) × Rising m ms
+
+-- numbers of a sheet's lifts: they rise, are not too many, and have fewer than 32 bits
+pub record Numbers (ns : List ℕ) : Type 0 where
+  pub rising : Rising 0 ns
+  pub few : length ns ≤ mostLifts
+  pub small : (k : ℕ) → getD ns k 0 < 2 ^ 32
+
+-- where the part that may have a number begins, once the part from low up is cut behind so many
+abbrev pub cutAt : List ℕ → ℕ → ℕ → ℕ → ℕ
+cutAt ns low half n = cond (ltb (low + half) (length ns) && leb (getD ns (low + half) 0) n) (low + half) low
 
 -- where a number stands in a list, if it does
 abbrev pub Located : List ℕ → ℕ → Found → Type 0

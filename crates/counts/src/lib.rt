@@ -2,14 +2,16 @@
 ghost use mathlib.Core.Path.{_≡_};
 ghost use mathlib.Core.Bool.{true};
 ghost use mathlib.Core.List.{[], map};
-ghost use Prim.Native.Nat.{ℕ, _+_, _-_, _*_, _≤_, _<_};
+ghost use Prim.Native.Nat.{ℕ, _+_, _-_, _*_, _^_, _≤_, _<_};
+ghost use lib.Dec.{leb};
 ghost use lib.ListN.{length, getD, drop, replicate};
-ghost use Rattle.sheet.specs.Sheet.{largestSum, lifts};
+ghost use Rattle.laws.specs.Sum.{indicator};
+ghost use Rattle.sheet.specs.Sheet.{mostLifts, largestSum, lifts};
 ghost use Rattle.sheet.specs.Reading.{Legible};
 ghost use Rattle.sheet.specs.Refusal.{verdict, told as saidOf};
 ghost use Rattle.counts.specs.Text.{lines, isDigit, largestCount};
 ghost use Rattle.counts.specs.Counts.{numbersOf, hundreds as hundredsOf, replyOf, outputOf, reply, output, told};
-ghost use Rattle.counts.specs.Scan.{cap, clamp, digitsAt, numberAt, endingAt, lineAt, Rising, Located, Tells, wordWith, sheetWith};
+ghost use Rattle.counts.specs.Scan.{cap, clamp, digitsAt, numberAt, endingAt, lineAt, Numbers, cutAt, Located, Tells, wordWith, sheetWith};
 use sheet::Checked;
 use sheet::Field;
 use sheet::Found;
@@ -205,31 +207,54 @@ fn hundreds(count: u64) -> u64
     (count + 99) / 100
 }
 
-// Where a number stands among rising numbers.
+// 1 if a number is at most another, else 0: computed, since nobody can predict a branch here.
+fn at_most(m: u64, n: u64) -> usize
+    requires { ⌜ m < 2 ^ 32 ⌝ }
+    requires { ⌜ n < 2 ^ 32 ⌝ }
+    ensures { λ r. ⌜ r ≡ indicator (leb m n) ⌝ }
+{
+    ((n + ((1 << 32) - m)) >> 32) as usize
+}
+
+// Where the part that may have a number begins, once it is cut behind so many.
+fn cut(numbers: &[u64], low: usize, half: usize, n: u64) -> usize
+    requires { ⌜ Numbers (now numbers) ⌝ }
+    requires { ⌜ low + half ≤ mostLifts ⌝ }
+    requires { ⌜ n < 2 ^ 32 ⌝ }
+    ensures { λ r. ⌜ r ≡ cutAt (now (numbers .entry)) low half n ⌝ }
+{
+    let middle = low + half;
+    if numbers.len() <= middle {
+        return low;
+    }
+    low + half * at_most(numbers[middle], n)
+}
+
+// Where a number stands among rising numbers: the part that may have it is halved until one is left.
 fn find(numbers: &[u64], n: u64) -> Found
-    requires { ⌜ Rising 0 (now numbers) ⌝ }
+    requires { ⌜ Numbers (now numbers) ⌝ }
+    requires { ⌜ n < 2 ^ 32 ⌝ }
     ensures { λ r. ⌜ Located (now (numbers .entry)) n r ⌝ }
 {
     let mut low = 0;
-    let mut high = numbers.len();
-    while low < high {
-        let middle = low + (high - low) / 2;
-        let m = numbers[middle];
-        if m == n {
-            return Found::At(middle);
-        }
-        if m < n {
-            low = middle + 1;
-        } else {
-            high = middle;
-        }
+    let mut size = Sheet::MOST_LIFTS;
+    while 1 < size {
+        let half = size / 2;
+        low = cut(numbers, low, half, n);
+        size -= half;
     }
-    Found::Nothing
+    if numbers.len() <= low {
+        return Found::Nothing;
+    }
+    if numbers[low] != n {
+        return Found::Nothing;
+    }
+    Found::At(low)
 }
 
 // The lines one by one: a slot for each lift that has one, one more than its new measure.
 fn gather(text: &[u8], numbers: &[u64], measures: &mut [u64]) -> Lines
-    requires { ⌜ Rising 0 (now numbers) ⌝ }
+    requires { ⌜ Numbers (now numbers) ⌝ }
     requires { ⌜ now measures ≡ replicate (length (now numbers)) 0 ⌝ }
     ensures { λ r. ⌜ Tells (now (numbers .entry)) (lines (now (text .entry))) r (now (measures .exit)) ⌝ }
 {

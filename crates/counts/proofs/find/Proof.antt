@@ -1,53 +1,46 @@
-use Prim.Native.Nat.{_-_}
-use Rattle.counts.proofs.Finding.{Narrowed, narrowed-none, narrowed-up, narrowed-down, narrowed-end}
+-- `counts::find` meets its contract: the part that may have the number is halved. Assumes nothing.
+use mathlib.Core.Path.{refl}
+use Rattle.counts.proofs.Finding.{Narrowed, narrowed-none, narrowed-room, narrowed-turn, narrowed-end}
 use native.Mathlib.Omega.{arith}
 use borrow.Author.Needs.{needs}
 use Rattle.counts.proofs.find.Statement.{statement}
 use Rattle.counts.proofs.find.Tie as tie
-use Rattle.counts.proofs.find.Reads as reads
-use Rattle.counts.proofs.find.Lts as lts
 
 abbrev Inv-loop : tie.InvT-loop
-Inv-loop numbers n low₀ high₀ low high = Narrowed numbers n low high
+Inv-loop numbers n low₀ size₀ low size = Narrowed numbers n low size
 
 abbrev μ-loop : tie.MeasureT-loop
-μ-loop numbers n low₀ high₀ low high = high - low
+μ-loop numbers n low₀ size₀ low size = size
 
 loop-holds : tie.Need-loop-holds Inv-loop μ-loop
-loop-holds c = search narrowed-none
+loop-holds c = narrowed-none _ (c .before .pre .0)
 
-sub-middle : tie.Need-sub-middle Inv-loop μ-loop
-sub-middle c = search needs
+cut-requires : tie.Need-cut-requires Inv-loop μ-loop
+cut-requires c κs = (c .before .before .before .pre .0, (narrowed-room (c .before .before .before .pre .0) (c .before .loop .inv) (c .loop-test .taken) refl, c .before .before .before .pre .1))
 
-add-middle : tie.Need-add-middle Inv-loop μ-loop
-add-middle c = search needs
-
-mul-m : tie.Need-mul-m Inv-loop μ-loop
-mul-m c = search needs
-
-shared-slice-read-m : tie.Need-shared-slice-read-m Inv-loop μ-loop
-shared-slice-read-m c = search needs
-
-returns : tie.Need-returns Inv-loop μ-loop
-returns c = search needs
-
-add-low : tie.Need-add-low Inv-loop μ-loop
-add-low c = search needs
+sub-size : tie.Need-sub-size Inv-loop μ-loop
+sub-size c = search needs
 
 loop-less : tie.Need-loop-less Inv-loop μ-loop
 loop-less c = search needs
 
 loop-again : tie.Need-loop-again Inv-loop μ-loop
-loop-again c = narrowed-up (c .before .before .before .before .before .pre) (c .before .before .before .before .loop .inv) (omega arith) (omega arith) (c .if2 .taken)
+loop-again c = narrowed-turn (c .before .before .before .before .pre .0) (c .before .before .loop .inv) (c .before .loop-test .taken) refl (c .cut .ensures)
 
-loop-less-2 : tie.Need-loop-less-2 Inv-loop μ-loop
-loop-less-2 c = search needs
+returns : tie.Need-returns Inv-loop μ-loop
+returns c = narrowed-end (c .before .before .loop .inv) (omega (arith, c .before .loop-test .left)) (λ h e. omega (arith, c .if1 .taken))
 
-loop-again-2 : tie.Need-loop-again-2 Inv-loop μ-loop
-loop-again-2 c = narrowed-down (c .before .before .before .before .before .pre) (c .before .before .before .before .loop .inv) (omega arith) (omega arith) (c .before .if1 .left) (c .if2 .left)
+mul-if2 : tie.Need-mul-if2 Inv-loop μ-loop
+mul-if2 c = search needs
+
+shared-slice-read-if2 : tie.Need-shared-slice-read-if2 Inv-loop μ-loop
+shared-slice-read-if2 c = search needs
 
 returns-2 : tie.Need-returns-2 Inv-loop μ-loop
-returns-2 c = search narrowed-end
+returns-2 c = narrowed-end (c .before .before .before .before .loop .inv) (omega (arith, c .before .before .before .loop-test .left)) (λ h e. c .if2 .taken e)
+
+returns-3 : tie.Need-returns-3 Inv-loop μ-loop
+returns-3 c = search needs
 
 pub find-spec : {M : Type 1} → statement M
 find-spec =
@@ -56,14 +49,12 @@ find-spec =
     Inv-loop
     μ-loop
     loop-holds
-    sub-middle
-    add-middle
-    mul-m
-    shared-slice-read-m
-    returns
-    add-low
+    cut-requires
+    sub-size
     loop-less
     loop-again
-    loop-less-2
-    loop-again-2
-    returns-2)
+    returns
+    mul-if2
+    shared-slice-read-if2
+    returns-2
+    returns-3)

@@ -1,7 +1,7 @@
 use Prim.Native.Nat.{_-_}
 use mathlib.Core.Path.{refl}
 use lib.ListN.{length}
-use Rattle.counts.proofs.Slots.{Kept, kept-none, kept-length, kept-same, kept-end, kept-malformed, kept-small, kept-less, kept-absent, kept-place, kept-had, kept-turn}
+use Rattle.counts.proofs.Slots.{Kept, kept-none, kept-length, kept-same, kept-end, kept-malformed, kept-small, kept-lift, kept-less, kept-absent, kept-place, kept-had, kept-turn}
 use native.Mathlib.Omega.{arith}
 use borrow.Author.Needs.{needs}
 use Rattle.counts.proofs.gather.Statement.{statement}
@@ -40,7 +40,7 @@ returns : tie.Need-returns Inv-loop μ-loop
 returns c = kept-malformed (c .before .before .before .before .loop .inv) (c .before .before .before .loop-test .taken) (c .before .before .read-line .ensures) (c .enum-told .given .1)
 
 find-requires : tie.Need-find-requires Inv-loop μ-loop
-find-requires c κs = c .before .before .before .before .before .before .before .before .before .pre .0
+find-requires c κs = (c .before .before .before .before .before .before .before .before .before .pre .0, kept-lift (c .before .before .before .before .before .loop .inv) (c .before .before .before .before .loop-test .taken) (c .before .before .before .read-line .ensures) (c .before .lift .given .1))
 
 enum-known-k : tie.Need-enum-known-k Inv-loop μ-loop
 enum-known-k c = search needs
