@@ -4,4 +4,5 @@ pub mod Finding
 pub mod Slots
 pub mod Renewing
 pub mod Taking
+pub mod Taken
 pub mod Worked

@@ -131,7 +131,7 @@ entry-small l {n} {c} e = go (isNumber largestLift (before l)) refl (isNumber la
 lift-small : (l : List ℕ) {n c : ℕ} → entry l ≡ counted n c → n < 2 ^ 32
 lift-small l e = omega (arith, entry-small l e .0)
 
-count-small : (l : List ℕ) {n c : ℕ} → entry l ≡ counted n c → c ≤ largestCount
+pub count-small : (l : List ℕ) {n c : ℕ} → entry l ≡ counted n c → c ≤ largestCount
 count-small l e = entry-small l e .1
 
 -- every slot is small

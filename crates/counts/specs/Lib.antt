@@ -1,4 +1,5 @@
 pub mod Text
 pub mod Counts
+pub mod Law
 pub mod Scan
 pub mod Worked

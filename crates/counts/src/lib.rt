@@ -11,6 +11,7 @@ ghost use Rattle.sheet.specs.Reading.{Legible};
 ghost use Rattle.sheet.specs.Refusal.{verdict, told as saidOf};
 ghost use Rattle.counts.specs.Text.{lines, isDigit, largestCount};
 ghost use Rattle.counts.specs.Counts.{numbersOf, hundreds as hundredsOf, replyOf, outputOf, reply, output, told};
+ghost use Rattle.counts.specs.Law.{Takes};
 ghost use Rattle.counts.specs.Scan.{cap, clamp, digitsAt, numberAt, endingAt, lineAt, Numbers, cutAt, Located, Tells, wordWith, sheetWith};
 use sheet::Checked;
 use sheet::Field;
@@ -416,6 +417,7 @@ fn take_legible(sheet: &mut [u32], text: &[u8]) -> Answer
 pub fn take(sheet: &mut [u32], text: &[u8]) -> Answer
     ensures replied { λ r. ⌜ told r ≡ reply (now (sheet .entry)) (now (text .entry)) ⌝ }
     ensures written { λ _. ⌜ now (sheet .exit) ≡ output (now (sheet .entry)) (now (text .entry)) ⌝ }
+    ensures taken { λ _. ⌜ Takes (now (sheet .entry)) (now (text .entry)) ⌝ }
 {
     match sheet::read(sheet) {
         Judged::Faulty(x) => Answer::Sheet(x),

@@ -11,7 +11,7 @@ use lib.Dec.{eqb, ltb}
 use borrow.Author.Tests.{eqb-true, eqb-false, eq-eqb, ne-eqb, leb-false, lt-leb, ltb-false, le-ltb, not-false}
 use Rattle.sheet.specs.Sheet.{mostLifts, mostRounds, largestSum, kind, payload, liftKind, oldKind, newKind, heldKind, endKind, Place, placeOf, Lift, lifts, word, placeWord, wordsOf, written, sheetOf}
 use Rattle.sheet.specs.Reading.{start, next, follows, outOfSequence, misnumbered, misplaced, miscounted, mismarked, fault, Reading, sound, unless, readFrom}
-use Rattle.sheet.specs.Law.{Placed, Proper, Listed, Listable, ReadTheorem, WrittenTheorem}
+use Rattle.sheet.specs.Law.{Placed, Proper, Listed, Listable, ReadTheorem, WrittenTheorem, WritablePlace, AllWritable, BackTheorem}
 use Rattle.sheet.specs.declared.Before.{Before}
 
 -- what the words before tell, from its parts
@@ -165,14 +165,24 @@ kind-word k p h = omega arith
 pub payload-word : (k p : ℕ) → p < 2 ^ 28 → payload (word k p) ≡ p
 payload-word k p h = omega arith
 
-pub kind-place : (k : ℕ) (p : Place) → Placed p → kind (placeWord k p) ≡ k
-kind-place k p h = omega arith
+module _ (k : ℕ) (p : Place) (h : WritablePlace p) where
+  pub kind-place : kind (placeWord k p) ≡ k
+  kind-place = omega arith
 
-round-place : (k : ℕ) (p : Place) → Placed p → placeOf (placeWord k p) .round ≡ p .round
-round-place k p h = omega arith
+  round-place : placeOf (placeWord k p) .round ≡ p .round
+  round-place = omega arith
 
-measure-place : (k : ℕ) (p : Place) → Placed p → placeOf (placeWord k p) .measure ≡ p .measure
-measure-place k p h = omega arith
+  measure-place : placeOf (placeWord k p) .measure ≡ p .measure
+  measure-place = omega arith
+
+pub placed-writable : {p : Place} → Placed p → WritablePlace p
+placed-writable h = record { round = omega (arith, h .round); measure = omega (arith, h .measure) }
+
+listed-writable : (n : ℕ) (ls : List Lift) → Listed n ls → AllWritable ls
+unfolding Listed AllWritable
+listed-writable n [] h = tt
+listed-writable n (l ∷ ls) (p, q) =
+    (record { number = p .payload; old = placed-writable (p .old); new = placed-writable (p .new) }, listed-writable (l .number) ls q)
 
 not-misplaced : (p : Place) → Placed p → (ltb mostRounds (p .round) || ltb largestSum (p .measure) || eqb (p .round) 0 && not (eqb (p .measure) 0)) ≡ false
 not-misplaced p h = rw (le-ltb mostRounds (p .round) (h .round), le-ltb largestSum (p .measure) (h .measure)) (go (eqb (p .round) 0) refl)
@@ -193,9 +203,11 @@ lift-passes : (s : Before) (i : ℕ) (ws : List ℕ) (l : Lift) → Free (s .kin
     → ((k j : ℕ) → Free k → readFrom (state k (l .number) (l .old .measure) (s .lifts + 1)) j ws ≡ sound) → readFrom s i (wordsOf l ++ ws) ≡ sound
 unfolding readFrom fault
 lift-passes s i ws l o p r =
+    let u = placed-writable (p .old) in
+    let v = placed-writable (p .new) in
     rw (kind-word liftKind (l .number) (p .payload), payload-word liftKind (l .number) (p .payload), o liftKind, ne-eqb (l .number) 0 (omega arith), lt-leb (l .number) (s .number) (p .rises))
-    (rw (kind-place oldKind (l .old) (p .old), round-place oldKind (l .old) (p .old), measure-place oldKind (l .old) (p .old), not-misplaced (l .old) (p .old))
-    (rw (kind-place newKind (l .new) (p .new), round-place newKind (l .new) (p .new), measure-place newKind (l .new) (p .new), not-misplaced (l .new) (p .new))
+    (rw (kind-place oldKind (l .old) u, round-place oldKind (l .old) u, measure-place oldKind (l .old) u, not-misplaced (l .old) (p .old))
+    (rw (kind-place newKind (l .new) v, round-place newKind (l .new) v, measure-place newKind (l .new) v, not-misplaced (l .new) (p .new))
     (mark-passes _ _ _ _ ws (l .held) (p .held) r)))
 
 -- lifts pass, with an end word that counts them
@@ -213,24 +225,27 @@ mark-back true ws h = (refl, refl)
 mark-back false ws h = (h, refl)
 
 -- the words of lifts begin with no held mark, and the lifts are read back
-lifts-back : (n e : ℕ) (ls : List Lift) → e < 2 ^ 28 → Listed n ls
+lifts-back : (e : ℕ) (ls : List Lift) → e < 2 ^ 28 → AllWritable ls
     → (eqb (kind (getD (written ls (word endKind e ∷ [])) 0 0)) heldKind ≡ false) × (lifts (written ls (word endKind e ∷ [])) ≡ ls)
-unfolding lifts written Listed
-lifts-back n e [] f p = (rw (kind-word endKind e f), rw (kind-word endKind e f))
-lifts-back n e (l ∷ ls) f (p, q) =
-    let r = lifts-back (l .number) e ls f q in
+unfolding lifts written AllWritable
+lifts-back e [] f p = (rw (kind-word endKind e f), rw (kind-word endKind e f))
+lifts-back e (l ∷ ls) f (p, q) =
+    let r = lifts-back e ls f q in
     let m = mark-back (l .held) (written ls (word endKind e ∷ [])) (r .0) in (
-      rw (kind-word liftKind (l .number) (p .payload)),
-      rw (kind-word liftKind (l .number) (p .payload), kind-place oldKind (l .old) (p .old), kind-place newKind (l .new) (p .new))
-          (rw (payload-word liftKind (l .number) (p .payload), round-place oldKind (l .old) (p .old), measure-place oldKind (l .old) (p .old))
+      rw (kind-word liftKind (l .number) (p .number)),
+      rw (kind-word liftKind (l .number) (p .number), kind-place oldKind (l .old) (p .old), kind-place newKind (l .new) (p .new))
+          (rw (payload-word liftKind (l .number) (p .number), round-place oldKind (l .old) (p .old), measure-place oldKind (l .old) (p .old))
           (rw (round-place newKind (l .new) (p .new), measure-place newKind (l .new) (p .new), m .0, m .1, r .1))),
     )
+
+pub back-theorem : BackTheorem
+back-theorem ls h f = lifts-back (length ls) ls f h .1
 
 pub written-theorem : WrittenTheorem
 written-theorem ls h =
     record {
       sound = lifts-pass start 0 (length ls) ls (λ j. refl) (h .listed) (omega arith) (h .few);
-      back = lifts-back 0 (length ls) ls (omega arith) (h .listed) .1;
+      back = back-theorem ls (listed-writable 0 ls (h .listed)) (omega (arith, h .few));
     }
 
 pub read-theorem : ReadTheorem

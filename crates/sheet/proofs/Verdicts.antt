@@ -122,7 +122,7 @@ unfolding firstRound
 passed n [] v e = (refl, e)
 passed n (r ∷ rs) v e = (cc, cc)
 
-read-through : (r : Reading) (v : Verdict) {a b : ℕ} → firstWord r v ≡ fits a b → (r ≡ sound) × (v ≡ fits a b)
+pub read-through : (r : Reading) (v : Verdict) {a b : ℕ} → firstWord r v ≡ fits a b → (r ≡ sound) × (v ≡ fits a b)
 read-through sound v e = (refl, e)
 read-through (faulty x) v e = (cc, cc)
 

@@ -15,7 +15,7 @@ use Rattle.sheet.specs.Rounds.{placeAt}
 use Rattle.sheet.specs.Law.{Placed, Proper, Listed}
 use Rattle.sheet.specs.declared.Side.{Side}
 use Rattle.sheet.specs.declared.Side.the-variants.{Old, New}
-use Rattle.sheet.proofs.Trips.{kind-word, payload-word, kind-place, read-theorem}
+use Rattle.sheet.proofs.Trips.{kind-word, payload-word, kind-place, placed-writable, read-theorem}
 
 -- the words of the end of a sheet of n lifts
 abbrev end : ℕ → List ℕ
@@ -67,7 +67,7 @@ lifts-one : {n : ℕ} (l : Lift) → Proper n l → (ws : List ℕ) → lifts (w
 lifts-one l p ws =
     lifts-lift _ (kind-word liftKind (l .number) (p .payload)) _
     ∙ ap (λ ls. liftOf (wordsOf l ++ ws) ∷ ls)
-    (lifts-other _ (kind-place oldKind (l .old) (p .old)) refl _ ∙ lifts-other _ (kind-place newKind (l .new) (p .new)) refl _ ∙ mark (l .held))
+    (lifts-other _ (kind-place oldKind (l .old) (placed-writable (p .old))) refl _ ∙ lifts-other _ (kind-place newKind (l .new) (placed-writable (p .new))) refl _ ∙ mark (l .held))
   where
     mark : (t : Bool) → lifts (cond t (word heldKind 0 ∷ []) [] ++ ws) ≡ lifts ws
     mark true = lifts-other (word heldKind 0) refl refl ws

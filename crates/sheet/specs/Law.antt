@@ -52,6 +52,24 @@ pub record Written (ls : List Lift) : Type 0 where
 abbrev pub WrittenTheorem : Type 0
 WrittenTheorem = (ls : List Lift) → Listable ls → Written ls
 
+-- a place, and a lift, whose numbers have room in their words: "upper 7 bits .., lower 21 bits", "the low 28"
+pub record WritablePlace (p : Place) : Type 0 where
+  pub round : p .round < 2 ^ 7
+  pub measure : p .measure < 2 ^ 21
+
+pub record Writable (l : Lift) : Type 0 where
+  pub number : l .number < 2 ^ 28
+  pub old : WritablePlace (l .old)
+  pub new : WritablePlace (l .new)
+
+unfoldable pub AllWritable : List Lift → Type 0
+AllWritable [] = Unit {0}
+AllWritable (l ∷ ls) = Writable l × AllWritable ls
+
+-- reading the words of such lifts gives the lifts, whether or not the words are refused
+abbrev pub BackTheorem : Type 0
+BackTheorem = (ls : List Lift) → AllWritable ls → length ls < 2 ^ 28 → lifts (sheetOf ls) ≡ ls
+
 -- ---- fitting
 
 -- no round passes the test

@@ -22,7 +22,7 @@ same-length c = search needs
 returns : tie.Need-returns
 returns c =
     let e = c .before .before .before .before .before .take .ensures in
-    (by-numbers (c .number .ensures) (c .before .before .second .ensures) (c .before .third .ensures) (e .0), e .1)
+    (by-numbers (c .number .ensures) (c .before .before .second .ensures) (c .before .third .ensures) (e .0), e .1 .0)
 
 pub jengpilo-counts-take-spec : {M : Type 1} → statement M
 jengpilo-counts-take-spec =

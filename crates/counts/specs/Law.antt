@@ -1,0 +1,30 @@
+-- What is proved of a text that is taken: the sheet then fits, and tells the same lifts with the counts of the lines in.
+use Prim.Native.Nat.{ℕ, _<_}
+use mathlib.Core.Path.{_≡_}
+use mathlib.Core.Bool.{true}
+use mathlib.Core.List.{List, [], map}
+use lib.ListN.{length, getD}
+use Rattle.sheet.specs.Sheet.{Lift, lifts}
+use Rattle.sheet.specs.Refusal.{fits}
+use Rattle.sheet.specs.Law.{Fitting}
+use Rattle.counts.specs.Text.{lines, counted, entry}
+use Rattle.counts.specs.Counts.{among, numbersOf, hundreds, remeasured, measured, renewed, answer}
+
+-- a line that is taken, among all lines, into lifts of these numbers: it names one of them, whose new measure is its count and that of no
+-- other line
+pub record TakenLine (ns : List ℕ) (xs : List (List ℕ)) (x : List ℕ) : Type 0 where
+  pub lift : ℕ
+  pub count : ℕ
+  pub says : entry x ≡ counted lift count
+  pub there : among lift ns ≡ true
+  pub alone : (l : Lift) → l .number ≡ lift → measured xs l ≡ remeasured l (hundreds count)
+
+-- a text that is taken: the sheet then fits, reading it gives the lifts with their counts, and each line is one of the counts
+pub record TakenText (sheet text : List ℕ) : Type 0 where
+  pub fits : Fitting (renewed sheet text)
+  pub back : lifts (renewed sheet text) ≡ map (measured (lines text)) (lifts sheet)
+  pub each : (i : ℕ) → i < length (lines text) → TakenLine (numbersOf (lifts sheet)) (lines text) (getD (lines text) i [])
+
+-- so it is whenever a text is not refused
+abbrev pub Takes : List ℕ → List ℕ → Type 0
+Takes sheet text = (a b : ℕ) → answer sheet text ≡ fits a b → TakenText sheet text
