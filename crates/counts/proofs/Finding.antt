@@ -1,7 +1,7 @@
 -- Binary search among rising numbers.
 use Prim.Native.Nat.{ℕ, zero, suc, _+_, _*_, _-_, _/_, _^_, _≤_, _<_}
-use mathlib.Core.Path.{_≡_, refl, sym, ap, _∙_}
-use mathlib.Core.Bool.{Bool, true, false, cond, _&&_, _||_}
+use mathlib.Core.Path.{_≡_, refl}
+use mathlib.Core.Bool.{Bool, true, false, cond, _&&_, or-true}
 use mathlib.Core.List.{List, [], _∷_}
 use native.Mathlib.Omega.{arith}
 use lib.Dec.{eqb, leb, ltb}
@@ -10,17 +10,17 @@ use borrow.Author.Tests.{eqb-true, eqb-false, eq-eqb, ne-eqb, leb-true, leb-fals
 use Rattle.laws.specs.Sum.{indicator}
 use Rattle.sheet.specs.Sheet.{mostLifts}
 use Rattle.counts.specs.Counts.{among}
-use Rattle.counts.specs.Scan.{Rising, Numbers, cutAt}
+use Rattle.counts.specs.Scan.{RisingAbove, Numbers, cutAt}
 
 -- each number is above the bound, and above those before it
-pub rising-above : (b : ℕ) (ns : List ℕ) → Rising b ns → (j : ℕ) → j < length ns → b < getD ns j 0
-unfolding Rising
+pub rising-above : (b : ℕ) (ns : List ℕ) → RisingAbove b ns → (j : ℕ) → j < length ns → b < getD ns j 0
+unfolding RisingAbove
 rising-above b [] r j h = absurd (omega arith)
 rising-above b (n ∷ ns) r zero h = r .0
 rising-above b (n ∷ ns) r (suc j) h = let l = rising-above n ns (r .1) j (omega arith) in let k = r .0 in omega arith
 
-pub rising-lt : (b : ℕ) (ns : List ℕ) → Rising b ns → (i j : ℕ) → i < j → j < length ns → getD ns i 0 < getD ns j 0
-unfolding Rising
+pub rising-lt : (b : ℕ) (ns : List ℕ) → RisingAbove b ns → (i j : ℕ) → i < j → j < length ns → getD ns i 0 < getD ns j 0
+unfolding RisingAbove
 rising-lt b [] r i j l h = absurd (omega arith)
 rising-lt b (n ∷ ns) r i zero l h = absurd (omega arith)
 rising-lt b (n ∷ ns) r zero (suc j) l h = rising-above n ns (r .1) j (omega arith)
@@ -119,7 +119,3 @@ unfolding among
 present n [] k l e = absurd (omega arith)
 present n (m ∷ ms) zero l e = rw (eq-eqb m n e)
 present n (m ∷ ms) (suc k) l e = rw (present n ms k (omega arith) e) (or-true (eqb m n))
-  where
-    or-true : (t : Bool) → (t || true) ≡ true
-    or-true true = refl
-    or-true false = refl

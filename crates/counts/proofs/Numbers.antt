@@ -1,19 +1,17 @@
 -- Digits read one by one: clamping after each digit is clamping the number. The laws of the loop over digits, and of a number's ways out.
-use Prim.Native.Nat.{ℕ, zero, suc, _+_, _*_, _-_, _≤_, _<_}
+use Prim.Native.Nat.{ℕ, suc, _+_, _*_, _-_, _≤_, _<_}
 use mathlib.Core.Path.{_≡_, refl, sym, ap, ap₂, _∙_}
-use mathlib.Core.Bool.{Bool, true, false, cond, not, _&&_, false≢true, true≢false}
-use mathlib.Core.List.{List, [], _∷_, _++_}
-use native.Mathlib.Nat.{add-zero}
+use mathlib.Core.Bool.{Bool, true, false, cond, not, _&&_, and-false, false≢true}
+use mathlib.Core.List.{List, [], _∷_}
 use native.Mathlib.Numerals.{add-one}
 use native.Mathlib.Omega.{arith}
-use lib.Dec.{eqb, leb, ltb}
+use lib.Dec.{leb, ltb}
 use lib.ListN.{length, getD, take, drop, drop-of-length-le}
 use lib.Seq.{drop-cons}
 use borrow.Author.Tests.{ltb-true, ltb-false, lt-ltb, le-ltb, leb-true, le-leb, lt-leb, lt-ltb}
-use Rattle.counts.specs.Text.{isDigit, allDigits, valueFrom, value, empty, isNumber}
-use Rattle.counts.specs.Scan.{cap, clamp, span, leading, digitsAt, pickNumber, numberAt}
+use Rattle.counts.specs.Text.{isDigit, allDigits, valueFrom, value, empty}
+use Rattle.counts.specs.Scan.{cap, clamp, span, leading, digitsAt, numberAt}
 use Rattle.counts.specs.declared.Digits.{Digits}
-use Rattle.counts.specs.declared.Number.{Number}
 use Rattle.counts.specs.declared.Number.the-variants.{Is, Not}
 
 pub and-split : (a b : Bool) → (a && b) ≡ true → (a ≡ true) × (b ≡ true)
@@ -107,10 +105,6 @@ module _ {text : List ℕ} {start v i : ℕ} (r : Reading text start v i) where
   reading-end h = stop (rw (drop-of-length-le text h))
 
 -- ---- a number's ways out
-
-pub and-false : (a : Bool) → (a && false) ≡ false
-and-false true = refl
-and-false false = refl
 
 pub leading-digits : (bs : List ℕ) → allDigits (leading bs) ≡ true
 unfolding span allDigits

@@ -2,16 +2,16 @@
 use Prim.Native.Nat.{ℕ, zero, suc, _+_, _*_, _-_, _^_, _≤_, _<_}
 use mathlib.Core.Path.{_≡_, refl, sym, ap, _∙_}
 use mathlib.Core.Bool.{Bool, true, false, cond}
-use mathlib.Core.List.{List, [], _∷_, _++_, map, append-assoc, append-nil}
+use mathlib.Core.List.{List, [], _∷_, _++_, append-assoc, append-nil}
 use native.Mathlib.Nat.{add-zero}
 use native.Mathlib.Numerals.{add-one}
 use native.Mathlib.Omega.{arith}
 use lib.Dec.{eqb, ltb}
-use lib.ListN.{length, getD, set, take, drop, drop-of-length-le, length-set, length-append, length-drop, length-map}
-use lib.Seq.{drop-drop, drop-at, drop-cons, getD-drop, getD-append-add, take-suc-set, take-all}
-use borrow.Author.Tests.{ltb-true, ltb-false, eqb-true, eqb-false, eq-eqb, ne-eqb}
+use lib.ListN.{length, getD, set, take, drop, drop-of-length-le, length-set, length-append, length-drop}
+use lib.Seq.{drop-drop, drop-at, drop-cons, getD-drop, take-suc-set, take-all}
+use borrow.Author.Tests.{ltb-true, ltb-false, eq-eqb, ne-eqb}
 use Rattle.laws.specs.Sum.{indicator}
-use Rattle.sheet.specs.Sheet.{newKind, heldKind, endKind, liftKind, oldKind, placeOf, Lift, liftOf, lifts, word, placeWord, wordsOf, written, sheetOf}
+use Rattle.sheet.specs.Sheet.{newKind, endKind, placeOf, Lift, liftOf, lifts, word, placeWord, wordsOf, written, sheetOf}
 use Rattle.sheet.specs.Reading.{Legible}
 use Rattle.sheet.proofs.Walks.{Between, between-none, Turn, turn, last, inside, moved}
 use Rattle.sheet.proofs.Walks.{behind as past}

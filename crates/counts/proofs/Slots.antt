@@ -1,7 +1,7 @@
 -- The loop over the lines: a slot for each lift holds the measure of its line, and the lines left decide the outcome.
 use Prim.Native.Nat.{ℕ, zero, suc, _+_, _-_, _^_, _≤_, _<_}
 use mathlib.Core.Path.{_≡_, refl, sym, ap, ap₂, _∙_}
-use mathlib.Core.Bool.{Bool, true, false, cond, not, _&&_, _||_}
+use mathlib.Core.Bool.{Bool, true, false, cond, not, _&&_, _||_, and-false}
 use mathlib.Core.List.{List, [], _∷_, _++_, map, append-assoc, append-nil}
 use native.Mathlib.Omega.{arith}
 use lib.Dec.{eqb}
@@ -13,11 +13,11 @@ use Rattle.sheet.specs.declared.Found.{Found}
 use Rattle.sheet.specs.declared.Found.the-variants.{At, Nothing}
 use Rattle.counts.specs.Text.{LF, lines, before, behind, allDigits, value, empty, isNumber, largestLift, largestCount, Entry, counted, malformed, entry}
 use Rattle.counts.specs.Counts.{among, atLine, linesFrom, numbersOf, hundreds, remeasured, measuredBy, measured}
-use Rattle.counts.specs.Scan.{line, extent, lineOf, lineAt, Rising, Numbers, Located, slotBy, slot, slots, Tells, liftWith, liftsWith}
+use Rattle.counts.specs.Scan.{line, extent, lineOf, lineAt, RisingAbove, Numbers, Located, slotBy, slot, slots, Tells, liftWith, liftsWith}
 use Rattle.counts.specs.declared.Line.{Line}
 use Rattle.counts.specs.declared.Line.the-variants.{Entry as EntryLine, Malformed}
 use Rattle.counts.specs.declared.Lines.the-variants.{Form, Lift as AboutLift, All}
-use Rattle.counts.proofs.Numbers.{and-false, and-split}
+use Rattle.counts.proofs.Numbers.{and-split}
 use Rattle.counts.proofs.Texts.{first-line}
 use Rattle.counts.proofs.Finding.{rising-above, present}
 
@@ -56,13 +56,13 @@ module _ (xs : List (List ℕ)) (x : List ℕ) {n c : ℕ} (e : entry x ≡ coun
   slot-own : slot xs n ≡ 0 → slot (xs ++ (x ∷ [])) n ≡ hundreds c + 1
   slot-own h = rw (slot-last xs x n, e, h, eq-eqb n n refl)
 
-  other-slots : (b : ℕ) (ns : List ℕ) → Rising b ns → n ≤ b → slots ns (xs ++ (x ∷ [])) ≡ slots ns xs
-  unfolding Rising
+  other-slots : (b : ℕ) (ns : List ℕ) → RisingAbove b ns → n ≤ b → slots ns (xs ++ (x ∷ [])) ≡ slots ns xs
+  unfolding RisingAbove
   other-slots b [] r h = refl
   other-slots b (m ∷ ms) r h = let l = r .0 in ap₂ _∷_ (slot-other m (λ q. omega arith)) (other-slots m ms (r .1) (omega arith))
 
-  set-slot : slot xs n ≡ 0 → (b : ℕ) (ns : List ℕ) → Rising b ns → (k : ℕ) → k < length ns → getD ns k 0 ≡ n → set (slots ns xs) k (hundreds c + 1) ≡ slots ns (xs ++ (x ∷ []))
-  unfolding Rising
+  set-slot : slot xs n ≡ 0 → (b : ℕ) (ns : List ℕ) → RisingAbove b ns → (k : ℕ) → k < length ns → getD ns k 0 ≡ n → set (slots ns xs) k (hundreds c + 1) ≡ slots ns (xs ++ (x ∷ []))
+  unfolding RisingAbove
   set-slot f b [] r k h q = absurd (omega arith)
   set-slot f b (m ∷ ms) r zero h q = ap₂ _∷_ (sym (rw q (slot-own f))) (sym (other-slots m ms (r .1) (omega arith)))
   set-slot f b (m ∷ ms) r (suc k) h q =

@@ -1,7 +1,7 @@
 -- The ways out of the call: the sheet lent, the lines, the result.
 use Prim.Native.Nat.{ℕ, zero, suc, _+_, _^_, _≤_, _<_}
 use mathlib.Core.Path.{_≡_, refl, sym, ap, ap₂, _∙_}
-use mathlib.Core.List.{List, [], _∷_, map}
+use mathlib.Core.List.{List, [], _∷_}
 use native.Mathlib.Omega.{arith}
 use lib.ListN.{length, getD, take, replicate, length-map}
 use Rattle.sheet.specs.Sheet.{largestSum, Lift, lifts, sheetOf}
@@ -19,7 +19,7 @@ use Rattle.sheet.specs.declared.Judged.{Judged}
 use Rattle.sheet.specs.declared.Judged.the-variants.{Faulty, Sound}
 use Rattle.counts.specs.Text.{lines}
 use Rattle.counts.specs.Counts.{numbersOf, ofLines, renewed, answer, replyOf, outputOf, reply, output, told}
-use Rattle.counts.specs.Scan.{Rising, Numbers, slot, slots, AllTaken, Tells, liftsWith, sheetWith}
+use Rattle.counts.specs.Scan.{RisingAbove, Numbers, slot, slots, AllTaken, Tells, liftsWith, sheetWith}
 use Rattle.counts.specs.declared.Answer.{Answer}
 use Rattle.counts.specs.declared.Answer.the-variants.{Sheet as AboutSheet, Form as FormAt, Lift as LiftAt, Taken}
 use Rattle.counts.specs.declared.Lines.{Lines}
@@ -44,8 +44,8 @@ zeros (suc m) (suc n) h = ap (λ vs. 0 ∷ vs) (zeros m n (omega arith))
 pub few : {ws : List ℕ} {n : ℕ} → Legible ws → n ≡ length (lifts ws) → n ≤ 4096
 few {ws} l e = omega (arith, read-theorem ws (l .read) .listable .few)
 
-listed-rising : (n : ℕ) (ls : List Lift) → Listed n ls → Rising n (numbersOf ls)
-unfolding Listed Rising
+listed-rising : (n : ℕ) (ls : List Lift) → Listed n ls → RisingAbove n (numbersOf ls)
+unfolding Listed RisingAbove
 listed-rising n [] h = tt
 listed-rising n (l ∷ ls) h = (h .0 .rises, listed-rising (l .number) ls (h .1))
 

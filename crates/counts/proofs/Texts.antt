@@ -1,25 +1,24 @@
 -- A line read field by field is the line split off and then read: digits belong to the line, what ends them is a comma, an ending, or no digit.
-use Prim.Native.Nat.{ℕ, zero, suc, _+_, _*_, _-_, _≤_, _<_}
-use mathlib.Core.Path.{_≡_, refl, sym, ap, ap₂, _∙_}
-use mathlib.Core.Bool.{Bool, true, false, cond, not, _&&_, false≢true, true≢false}
+use Prim.Native.Nat.{ℕ, suc, _+_, _-_, _≤_, _<_}
+use mathlib.Core.Path.{_≡_, refl, sym, ap, _∙_}
+use mathlib.Core.Bool.{Bool, true, false, cond, not, _&&_, and-false, false≢true}
 use mathlib.Core.Logic.{_⊎_, inl, inr}
 use mathlib.Core.List.{List, [], _∷_, _++_, append-nil}
 use native.Mathlib.Nat.{add-zero}
 use native.Mathlib.Numerals.{add-one}
 use native.Mathlib.Omega.{arith}
-use lib.Dec.{eqb, leb, ltb}
+use lib.Dec.{eqb}
 use lib.ListN.{List·getD-eq-default, length, getD, take, drop, drop-of-length-le}
 use lib.Seq.{drop-cons, drop-drop, getD-drop}
-use borrow.Author.Tests.{eqb-true, eqb-false, eq-eqb, ne-eqb, leb-true, not-true}
+use borrow.Author.Tests.{eq-eqb, ne-eqb, not-true}
 use Rattle.sheet.specs.declared.Found.{Found}
 use Rattle.sheet.specs.declared.Found.the-variants.{At, Nothing}
-use Rattle.counts.specs.Text.{LF, CR, comma, ahead, endingCR, lines, before, behind, isDigit, allDigits, valueFrom, value, empty, isNumber, largestLift, largestCount, Entry, counted, malformed, entry}
-use Rattle.counts.specs.Scan.{span, leading, pickNumber, numberAt, line, extent, pickFound, endingAt, lineOf, lineAt}
+use Rattle.counts.specs.Text.{LF, CR, comma, ahead, endingCR, lines, before, behind, isDigit, allDigits, value, empty, isNumber, largestLift, largestCount, counted, malformed, entry}
+use Rattle.counts.specs.Scan.{span, leading, pickNumber, numberAt, line, extent, pickFound, endingAt, lineAt}
 use Rattle.counts.specs.declared.Number.{Number}
 use Rattle.counts.specs.declared.Number.the-variants.{Is, Not}
-use Rattle.counts.specs.declared.Line.{Line}
 use Rattle.counts.specs.declared.Line.the-variants.{Entry as EntryLine, Malformed}
-use Rattle.counts.proofs.Numbers.{and-false, leading-digits, digit-low}
+use Rattle.counts.proofs.Numbers.{digit-low}
 
 -- ---- the first line of a text
 
@@ -192,11 +191,6 @@ no-comma : (l : List ℕ) → (getD l 0 0 ≡ comma → ⊥) → (empty (before 
 unfolding before behind
 no-comma [] h = inr refl
 no-comma (b ∷ bs) h = inl (rw (ne-eqb b comma h))
-
--- a comma begins the rest of the line
-line-comma : (bs : List ℕ) → line (comma ∷ bs) ≡ comma ∷ line bs
-unfolding line
-line-comma bs = refl
 
 comma-extent : (bs : List ℕ) → extent (comma ∷ bs) ≡ suc (extent bs)
 unfolding extent

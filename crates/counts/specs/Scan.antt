@@ -76,14 +76,14 @@ lineAt text i = lineOf (entry (line (drop i text))) (i + extent (drop i text))
 
 -- ---- lifts
 
--- numbers that rise, above a number
-unfoldable pub Rising : ℕ → List ℕ → Type 0
-Rising n [] = Unit {0}
-Rising n (m ∷ ms) = (n < m) × Rising m ms
+-- numbers that rise, from above a number
+unfoldable pub RisingAbove : ℕ → List ℕ → Type 0
+RisingAbove n [] = Unit {0}
+RisingAbove n (m ∷ ms) = (n < m) × RisingAbove m ms
 
--- numbers of a sheet's lifts: they rise, are not too many, and have fewer than 32 bits
+-- numbers of a sheet's lifts: they rise, are not too many, and have 32 bits at most
 pub record Numbers (ns : List ℕ) : Type 0 where
-  pub rising : Rising 0 ns
+  pub rising : RisingAbove 0 ns
   pub few : length ns ≤ mostLifts
   pub small : (k : ℕ) → getD ns k 0 < 2 ^ 32
 

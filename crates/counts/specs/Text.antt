@@ -26,8 +26,8 @@ ahead b (l ∷ ls) = (b ∷ l) ∷ ls
 abbrev pub endingCR : ℕ → List ℕ → Bool
 endingCR b bs = eqb b CR && eqb (getD bs 0 0) LF
 
--- the lines of a text without their endings: "ended by LF or CR LF; the last may lack its ending". A CR that is not before an LF is
--- no ending
+-- the lines of a text without their endings: "ended by LF or CR LF; the last may lack its ending". A CR that is not before an LF belongs to
+-- its line
 unfoldable pub lines : List ℕ → List (List ℕ)
 lines [] = []
 lines (b ∷ bs) = cond (eqb b LF) ([] ∷ lines bs) (cond (endingCR b bs) (lines bs) (ahead b (lines bs)))
@@ -45,6 +45,7 @@ behind (b ∷ bs) = cond (eqb b comma) bs (behind bs)
 
 -- ---- numbers
 
+-- "decimal digits", in ASCII
 abbrev pub isDigit : ℕ → Bool
 isDigit b = leb 48 b && leb b 57
 
@@ -52,7 +53,7 @@ unfoldable pub allDigits : List ℕ → Bool
 allDigits [] = true
 allDigits (b ∷ bs) = isDigit b && allDigits bs
 
--- the number that decimal digits write behind a number v, and alone
+-- the number that decimal digits write, behind a number v and alone
 unfoldable pub valueFrom : ℕ → List ℕ → ℕ
 valueFrom v [] = v
 valueFrom v (b ∷ bs) = valueFrom (v * 10 + (b - 48)) bs

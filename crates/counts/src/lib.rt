@@ -1,10 +1,9 @@
 // The monitoring centre's counts taken into a sheet (Card 1 of document 02).
 ghost use mathlib.Core.Path.{_≡_};
 ghost use mathlib.Core.Bool.{true};
-ghost use mathlib.Core.List.{[], map};
 ghost use Prim.Native.Nat.{ℕ, _+_, _-_, _*_, _^_, _≤_, _<_};
 ghost use lib.Dec.{leb};
-ghost use lib.ListN.{length, getD, drop, replicate};
+ghost use lib.ListN.{length, getD, replicate};
 ghost use Rattle.laws.specs.Sum.{indicator};
 ghost use Rattle.sheet.specs.Sheet.{mostLifts, largestSum, lifts};
 ghost use Rattle.sheet.specs.Reading.{Legible};
@@ -103,6 +102,7 @@ impl Answer {
 
 // ---- a line
 
+// Whether a byte is a decimal digit.
 fn is_digit(b: u8) -> bool
     ensures { λ r. ⌜ r ≡ isDigit b ⌝ }
 {

@@ -17,7 +17,7 @@ use Rattle.round.specs.declared.Held.{Held}
 use Rattle.round.specs.declared.Held.the-variants.{Neither}
 use Rattle.round.specs.declared.Lift.{Lift as RoundLift}
 use Rattle.sheet.specs.Sheet.{Lift, lifts, word}
-use Rattle.sheet.specs.Reading.{Numbered, numbered}
+use Rattle.sheet.specs.Reading.{numbered}
 use Rattle.sheet.specs.Rounds.{placeAt, inUse, sumOf, donors, ofRound}
 use Rattle.sheet.specs.Refusal.{Verdict, refused, fits, verdict}
 use Rattle.sheet.specs.Reply.{Reply, replied, ofRefusal, unlessRefused}

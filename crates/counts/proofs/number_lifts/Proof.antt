@@ -1,3 +1,4 @@
+-- `counts::number_lifts` meets its contract: the numbers so far and those of the lifts left are all numbers. Assumes nothing.
 use Prim.Native.Nat.{_-_}
 use mathlib.Core.Path.{refl, sym, _∙_}
 use lib.ListN.{length}
@@ -8,10 +9,6 @@ use native.Mathlib.Omega.{arith}
 use borrow.Author.Needs.{needs}
 use Rattle.counts.proofs.number_lifts.Statement.{statement}
 use Rattle.counts.proofs.number_lifts.Tie as tie
-use Rattle.counts.proofs.number_lifts.Reads as reads
-use Rattle.counts.proofs.number_lifts.Lts as lts
-use Rattle.sheet.proofs.marks.Reads as marks-reads
-use Rattle.sheet.proofs.value.Reads as value-reads
 
 abbrev Inv-loop : tie.InvT-loop
 Inv-loop sheet numbers₀ i₀ k₀ numbers i k = Numbering sheet numbers i k

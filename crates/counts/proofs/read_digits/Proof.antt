@@ -1,16 +1,12 @@
+-- `counts::read_digits` meets its contract: what is left of the digits gives the number, and where they end. Assumes nothing.
 use mathlib.Core.Path.{sym, _∙_}
 use borrow.Author.Tests.{not-true, not-false}
 use Prim.Native.Nat.{_-_}
 use lib.ListN.{length}
 use Rattle.counts.proofs.Numbers.{Reading, reading-none, reading-turn, reading-stop, reading-end}
-use native.Mathlib.Omega.{arith}
 use borrow.Author.Needs.{needs}
 use Rattle.counts.proofs.read_digits.Statement.{statement}
 use Rattle.counts.proofs.read_digits.Tie as tie
-use Rattle.counts.proofs.read_digits.Reads as reads
-use Rattle.counts.proofs.read_digits.Lts as lts
-use Rattle.counts.proofs.is_digit.Reads as is-digit-reads
-use Rattle.counts.proofs.push.Reads as push-reads
 
 abbrev Inv-loop : tie.InvT-loop
 Inv-loop text at value₀ i₀ value i = Reading text at value i

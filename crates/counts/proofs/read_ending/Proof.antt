@@ -1,10 +1,8 @@
+-- `counts::read_ending` meets its contract: one law for each way out. Assumes nothing.
 use Rattle.counts.proofs.Texts.{ending-past, ending-LF, ending-other, ending-CR, ending-CR-other, ending-CRLF}
-use native.Mathlib.Omega.{arith}
 use borrow.Author.Needs.{needs}
 use Rattle.counts.proofs.read_ending.Statement.{statement}
 use Rattle.counts.proofs.read_ending.Tie as tie
-use Rattle.counts.proofs.read_ending.Reads as reads
-use Rattle.counts.proofs.read_ending.Lts as lts
 
 returns : tie.Need-returns
 returns c = search ending-past

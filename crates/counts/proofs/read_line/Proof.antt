@@ -1,12 +1,8 @@
+-- `counts::read_line` meets its contract: one law for each way out: a field, the comma, the ending, the whole line. Assumes nothing.
 use Rattle.counts.proofs.Texts.{line-no-lift, line-short, line-no-comma, line-no-count, line-no-ending, line-whole}
-use native.Mathlib.Omega.{arith}
 use borrow.Author.Needs.{needs}
 use Rattle.counts.proofs.read_line.Statement.{statement}
 use Rattle.counts.proofs.read_line.Tie as tie
-use Rattle.counts.proofs.read_line.Reads as reads
-use Rattle.counts.proofs.read_line.Lts as lts
-use Rattle.counts.proofs.read_ending.Reads as read-ending-reads
-use Rattle.counts.proofs.read_number.Reads as read-number-reads
 
 read-number-requires : tie.Need-read-number-requires
 read-number-requires c κs = search needs

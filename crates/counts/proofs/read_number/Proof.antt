@@ -1,11 +1,8 @@
+-- `counts::read_number` meets its contract: one law for each way out. Assumes nothing.
 use Rattle.counts.proofs.Numbers.{no-digits, above-limit, within-limit}
-use native.Mathlib.Omega.{arith}
 use borrow.Author.Needs.{needs}
 use Rattle.counts.proofs.read_number.Statement.{statement}
 use Rattle.counts.proofs.read_number.Tie as tie
-use Rattle.counts.proofs.read_number.Reads as reads
-use Rattle.counts.proofs.read_number.Lts as lts
-use Rattle.counts.proofs.read_digits.Reads as read-digits-reads
 
 read-digits-requires : tie.Need-read-digits-requires
 read-digits-requires c κs = search needs

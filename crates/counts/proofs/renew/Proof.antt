@@ -1,13 +1,8 @@
+-- `counts::renew` meets its contract: the word's round with another measure. Assumes nothing.
 use Rattle.counts.proofs.Renewing.{renew-none, renew-some}
-use native.Mathlib.Omega.{arith}
 use borrow.Author.Needs.{needs}
 use Rattle.counts.proofs.renew.Statement.{statement}
 use Rattle.counts.proofs.renew.Tie as tie
-use Rattle.counts.proofs.renew.Reads as reads
-use Rattle.counts.proofs.renew.Lts as lts
-use Rattle.sheet.proofs.Sheet.place.Reads as place-reads
-use Rattle.sheet.proofs.Sheet.round.Reads as round-reads
-use Rattle.sheet.proofs.Sheet.word.Reads as word-reads
 
 returns : tie.Need-returns
 returns c = renew-none _ _ (c .if1 .taken)

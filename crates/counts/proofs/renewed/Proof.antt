@@ -1,18 +1,13 @@
+-- `counts::renewed` meets its contract: a copy, with the measures put in, is checked. Assumes nothing.
 use mathlib.Core.Path.{_≡_, sym, ap, subst, _∙_}
 use lib.ListN.{length}
 use Rattle.sheet.specs.Sheet.{lifts, sheetOf}
 use Rattle.sheet.specs.Reading.{Legible}
 use Rattle.sheet.specs.Refusal.{verdict}
 use Rattle.counts.specs.Scan.{liftsWith}
-use native.Mathlib.Omega.{arith}
 use borrow.Author.Needs.{needs}
 use Rattle.counts.proofs.renewed.Statement.{statement}
 use Rattle.counts.proofs.renewed.Tie as tie
-use Rattle.counts.proofs.renewed.Reads as reads
-use Rattle.counts.proofs.renewed.Lts as lts
-use Rattle.counts.proofs.copy.Reads as copy-reads
-use Rattle.counts.proofs.put.Reads as put-reads
-use Rattle.sheet.proofs.check.Reads as check-reads
 
 copy-requires : tie.Need-copy-requires
 copy-requires c κs = c .before .before .before .before .pre .1 .0
