@@ -6,7 +6,7 @@ use native.Mathlib.Omega.{arith}
 use lib.ListN.{length, getD, take, replicate, length-map}
 use Rattle.sheet.specs.Sheet.{largestSum, Lift, lifts, sheetOf}
 use Rattle.sheet.specs.Reading.{numbered, faulty, ofWords, Legible}
-use Rattle.sheet.specs.Refusal.{refused, fits, firstWord, verdict, refusal, told as saidOf, toldOfWords}
+use Rattle.sheet.specs.Refusal.{refused, fits, unlessFaulty, verdict, refusal, told as saidOf, toldOfWords}
 use Rattle.sheet.specs.Reply.{Reply, replied, ofRefusal}
 use Rattle.sheet.specs.Law.{Listed}
 use Rattle.sheet.proofs.Trips.{read-theorem}
@@ -72,9 +72,9 @@ module _ (n : ℕ) (old ws : List ℕ) {r : Checked} (h : saidOf r ≡ verdict w
 -- ---- the lines
 
 -- the answer behind a legible sheet's words
-behind-words : (ws text : List ℕ) → Legible ws → firstWord (ofLines (lifts ws) (lines text)) (verdict (renewed ws text)) ≡ answer ws text
+behind-words : (ws text : List ℕ) → Legible ws → unlessFaulty (ofLines (lifts ws) (lines text)) (verdict (renewed ws text)) ≡ answer ws text
 unfolding answer
-behind-words ws text l = ap (λ r. firstWord r (firstWord (ofLines (lifts ws) (lines text)) (verdict (renewed ws text)))) (words-legible l)
+behind-words ws text l = ap (λ r. unlessFaulty r (unlessFaulty (ofLines (lifts ws) (lines text)) (verdict (renewed ws text)))) (words-legible l)
 
 module _ (ws text ns measures : List ℕ) (l : Legible ws) {r : Lines} (e : ns ≡ numbersOf (lifts ws)) (g : Tells ns (lines text) r measures) where
   pub at-form : {i : ℕ} → r ≡ Form i → (ofRefusal (numbered 14 i) ≡ reply ws text) × (ws ≡ output ws text)

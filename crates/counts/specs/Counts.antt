@@ -6,7 +6,7 @@ use lib.Dec.{eqb}
 use lib.ListN.{length}
 use Rattle.sheet.specs.Sheet.{Lift, lifts, sheetOf}
 use Rattle.sheet.specs.Reading.{numbered, Reading, faulty, sound, ofWords}
-use Rattle.sheet.specs.Refusal.{Verdict, refused, fits, firstWord, verdict, refusal}
+use Rattle.sheet.specs.Refusal.{Verdict, refused, fits, unlessFaulty, verdict, refusal}
 use Rattle.sheet.specs.Reply.{Reply, replied, ofRefusal}
 use Rattle.counts.specs.Text.{lines, Entry, counted, malformed, entry}
 use Rattle.counts.specs.declared.Answer.{Answer}
@@ -65,7 +65,7 @@ renewed sheet text = sheetOf (map (measured (lines text)) (lifts sheet))
 
 -- 14 and 15 "after 1 to 6 for the sheet lent"; "The result is then checked as any sheet."
 unfoldable pub answer : List ℕ → List ℕ → Verdict
-answer sheet text = firstWord (ofWords sheet) (firstWord (ofLines (lifts sheet) (lines text)) (verdict (renewed sheet text)))
+answer sheet text = unlessFaulty (ofWords sheet) (unlessFaulty (ofLines (lifts sheet) (lines text)) (verdict (renewed sheet text)))
 
 -- ---- the reply and the sheet at the end
 

@@ -7,7 +7,7 @@ use lib.Dec.{eqb}
 use lib.ListN.{length}
 use Rattle.sheet.specs.Sheet.{endKind}
 use Rattle.sheet.specs.Reading.{mislong, next, fault, numbered, Reading, faulty, sound, unless, readFrom, reading, ofWords, start}
-use Rattle.sheet.specs.Refusal.{Verdict, refused, fits, firstRound, ofRounds, firstWord, verdict}
+use Rattle.sheet.specs.Refusal.{Verdict, refused, fits, firstRound, ofRounds, unlessFaulty, verdict}
 use Rattle.sheet.specs.declared.Before.{Before}
 
 -- ---- of words
@@ -40,7 +40,7 @@ unfolding firstRound
 above-round n [] v h = h
 above-round n (r ∷ rs) v h = omega arith
 
-above-word : (r : Reading) (v : Verdict) → AboveWord r → Above v → Above (firstWord r v)
+above-word : (r : Reading) (v : Verdict) → AboveWord r → Above v → Above (unlessFaulty r v)
 above-word (faulty x) v h k = h
 above-word sound v h k = k
 

@@ -11,7 +11,7 @@ use borrow.Author.Tests.{eq-eqb, ne-eqb, lt-ltb, le-ltb, ltb-false}
 use Rattle.sheet.specs.Sheet.{mostRounds, longest, Lift, lifts, sheetOf}
 use Rattle.sheet.specs.Reading.{Numbered, numbered, Reading, faulty, sound, start, reading, ofWords, Legible}
 use Rattle.sheet.specs.Rounds.{rounds, inUse}
-use Rattle.sheet.specs.Refusal.{Verdict, refused, fits, unheld, oversize, unmeasured, crowded, firstRound, ofRounds, firstWord, verdict}
+use Rattle.sheet.specs.Refusal.{Verdict, refused, fits, unheld, oversize, unmeasured, crowded, firstRound, ofRounds, unlessFaulty, verdict}
 use Rattle.sheet.specs.Tables.{table, tallyOf, donorsOf, breaks, first}
 use Rattle.sheet.specs.Law.{Fit, Fitting, DecidedTheorem}
 use Rattle.sheet.specs.declared.Side.{Side}
@@ -108,11 +108,11 @@ module _ (ws : List ℕ) where
 
   pub at-word : {x : Numbered} → faulty x ≡ ofWords ws → refused x ≡ verdict ws
   unfolding verdict
-  at-word e = ap (λ r. firstWord r (ofRounds (lifts ws))) e
+  at-word e = ap (λ r. unlessFaulty r (ofRounds (lifts ws))) e
 
   pub at-rounds : {v : Verdict} → sound ≡ ofWords ws → v ≡ ofRounds (lifts ws) → v ≡ verdict ws
   unfolding verdict
-  at-rounds e q = q ∙ ap (λ r. firstWord r (ofRounds (lifts ws))) e
+  at-rounds e q = q ∙ ap (λ r. unlessFaulty r (ofRounds (lifts ws))) e
 
 -- ---- fitting
 
@@ -122,7 +122,7 @@ unfolding firstRound
 passed n [] v e = (refl, e)
 passed n (r ∷ rs) v e = (cc, cc)
 
-pub read-through : (r : Reading) (v : Verdict) {a b : ℕ} → firstWord r v ≡ fits a b → (r ≡ sound) × (v ≡ fits a b)
+pub read-through : (r : Reading) (v : Verdict) {a b : ℕ} → unlessFaulty r v ≡ fits a b → (r ≡ sound) × (v ≡ fits a b)
 read-through sound v e = (refl, e)
 read-through (faulty x) v e = (cc, cc)
 

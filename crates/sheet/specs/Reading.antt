@@ -75,7 +75,7 @@ pub record Numbered : Type 0 where
 abbrev pub numbered : ℕ → ℕ → Numbered
 numbered n i = record { number = n; place = i }
 
--- the refusal of the first faulty word, or that none is faulty
+-- the refusal of what is first found faulty, or that nothing is
 pub data Reading : Type 0 where
   faulty : Numbered → Reading
   sound : Reading

@@ -56,14 +56,14 @@ ofRounds ls =
     (firstRound 10 (rounds (crowded ls))
     (fits (length ls) (length (inUse New ls)))))))
 
--- a faulty word's refusal, else what follows
-abbrev pub firstWord : Reading → Verdict → Verdict
-firstWord (faulty x) v = refused x
-firstWord sound v = v
+-- the refusal that a reading met, else what follows
+abbrev pub unlessFaulty : Reading → Verdict → Verdict
+unlessFaulty (faulty x) v = refused x
+unlessFaulty sound v = v
 
 -- the words, "then" the rounds
 unfoldable pub verdict : List ℕ → Verdict
-verdict ws = firstWord (ofWords ws) (ofRounds (lifts ws))
+verdict ws = unlessFaulty (ofWords ws) (ofRounds (lifts ws))
 
 -- ---- the code's answer
 
