@@ -8,9 +8,11 @@ use native.Mathlib.Omega.{arith}
 use lib.Dec.{eqb}
 use lib.ListN.{length, getD, length-map}
 use borrow.Author.Tests.{eq-eqb, ne-eqb, eqb-false}
-use Rattle.sheet.specs.Sheet.{Lift, lifts}
+use Rattle.sheet.specs.Sheet.{notCounted, Lift, lifts}
 use Rattle.sheet.specs.Reading.{numbered, Reading, faulty, sound, ofWords}
+use Rattle.sheet.specs.Rounds.{placeAt}
 use Rattle.sheet.specs.Law.{Listed, Writable, AllWritable}
+use Rattle.sheet.specs.declared.Side.the-variants.{New}
 use Rattle.sheet.proofs.Trips.{placed-writable, read-theorem, back-theorem}
 use Rattle.sheet.proofs.Verdicts.{legible-words, decided, read-through}
 use Rattle.counts.specs.Text.{lines, Entry, counted, malformed, entry}
@@ -41,6 +43,10 @@ entered x i ns had rest h = go (entry x) refl h
         by true u true v h = let z : _≡_ {A = ℕ} 0 1 = cc in absurd (omega arith)
         by false u b v h = let z : _≡_ {A = ℕ} 0 1 = cc in absurd (omega arith)
 
+-- a lift counts with the count of a line
+counts-line : (x : List ℕ) {n c : ℕ} → entry x ≡ counted n c → (l : Lift) → placeAt New (remeasured l (hundreds c)) .measure ≡ hundreds c
+counts-line x {n} {c} e l = rw (ne-eqb (hundreds c) notCounted (omega (arith, count-small x e)))
+
 -- each line of lines that are all taken, and that its lift had none before
 record Line (ns had : List ℕ) (xs : List (List ℕ)) (x : List ℕ) : Type 0 where
   taken : TakenLine ns xs x
@@ -65,14 +71,28 @@ each-line ns had i (x ∷ xs) h j l =
         → ((j : ℕ) → j < length xs → Line ns (e .lift ∷ had) xs (getD xs j [])) → Line ns had (x ∷ xs) (getD (x ∷ xs) j [])
     go zero l e r =
         record {
-          taken = record { lift = e .lift; count = e .count; says = e .says; there = e .there; alone = λ k q. let s = e .says in rw (s, eq-eqb (e .lift) (k .number) (sym q)) };
+          taken = record {
+            lift = e .lift;
+            count = e .count;
+            says = e .says;
+            there = e .there;
+            alone = λ k q. let s = e .says in rw (s, eq-eqb (e .lift) (k .number) (sym q));
+            counts = counts-line x (e .says);
+          };
           new = e .new;
         }
     go (suc j) l e r =
         let m = r j (omega arith) .taken in
         let o = not-among (m .lift) (e .lift) had (r j (omega arith) .new) in
         record {
-          taken = record { lift = m .lift; count = m .count; says = m .says; there = m .there; alone = λ k q. let s = e .says in rw (s, ne-eqb (e .lift) (k .number) (λ z. o .0 (z ∙ q))) (m .alone k q) };
+          taken = record {
+            lift = m .lift;
+            count = m .count;
+            says = m .says;
+            there = m .there;
+            alone = λ k q. let s = e .says in rw (s, ne-eqb (e .lift) (k .number) (λ z. o .0 (z ∙ q))) (m .alone k q);
+            counts = m .counts;
+          };
           new = o .1;
         }
 

@@ -5,8 +5,10 @@ use mathlib.Core.Bool.{true}
 use mathlib.Core.List.{List, [], map}
 use lib.ListN.{length, getD}
 use Rattle.sheet.specs.Sheet.{Lift, lifts}
+use Rattle.sheet.specs.Rounds.{placeAt}
 use Rattle.sheet.specs.Refusal.{fits}
 use Rattle.sheet.specs.Law.{Fitting}
+use Rattle.sheet.specs.declared.Side.the-variants.{New}
 use Rattle.counts.specs.Text.{lines, counted, entry}
 use Rattle.counts.specs.Counts.{among, numbersOf, hundreds, remeasured, measured, renewed, answer}
 
@@ -18,6 +20,8 @@ pub record TakenLine (ns : List ℕ) (xs : List (List ℕ)) (x : List ℕ) : Typ
   pub says : entry x ≡ counted lift count
   pub there : among lift ns ≡ true
   pub alone : (l : Lift) → l .number ≡ lift → measured xs l ≡ remeasured l (hundreds count)
+  -- no count is "not counted", so the lift counts with it, and with its old measure no longer if that stood for it
+  pub counts : (l : Lift) → placeAt New (remeasured l (hundreds count)) .measure ≡ hundreds count
 
 -- a text that is taken: the sheet then fits, reading it gives the lifts with their counts, and each line is one of the counts
 pub record TakenText (sheet text : List ℕ) : Type 0 where

@@ -58,6 +58,9 @@ lineCases =
     -- "the count divided by 100, rounded up"
     ∷ taken example "11,0\n12,1\n13,100\n" 3 (changed 0x30200000 0x30200001 0x30200001)
     ∷ taken example "13,101\n11,200\n" 2 (changed 0x30200002 0x30200001 0x30200002)
+    -- a lift that was not counted: its line counts it, also with 0; without one it stays so
+    ∷ taken (changed 0x303FFFFF 0x303FFFFF 0x30200005) "12,100" 1 (changed 0x303FFFFF 0x30200001 0x30200005)
+    ∷ taken (changed 0x30200004 0x303FFFFF 0x30200005) "12,0" 1 (changed 0x30200004 0x30200000 0x30200005)
     -- "ended by LF or CR LF; the last may lack its ending"
     ∷ taken example "11,300\r\n12,400\n13,500" 3 (changed 0x30200003 0x30200004 0x30200005)
     ∷ taken example "12,900\r\n" 1 (changed 0x30200004 0x30200009 0x30200005)
@@ -113,6 +116,10 @@ withdrawn = sheetOf (lift 1 1 1 0 0 true ∷ lift 2 2 1 0 0 true ∷ [])
 abbrev two : ℕ → ℕ → List ℕ
 two a b = sheetOf (lift 1 1 1 1 a true ∷ lift 2 1 1 1 b false ∷ [])
 
+-- a lift that was not counted, of old measure 1,048,575, and one of a new measure beside it
+abbrev filled : ℕ → List ℕ
+filled b = sheetOf (lift 1 1 1048575 1 2097151 true ∷ lift 2 2 1 1 b true ∷ [])
+
 -- an old round without a held lift, and a new round with three donors
 abbrev unheld : List ℕ
 unheld = sheetOf (lift 1 5 1 1 1 false ∷ [])
@@ -129,6 +136,9 @@ resultCases =
     ∷ refused (0x1000000B ∷ 0x2CA00001 ∷ []) "x" 4 1
     ∷ refused (0xF0000001 ∷ []) "x" 5 0
     ∷ refused (0x1000000B ∷ 0x20200000 ∷ 0x30200001 ∷ 0x40000000 ∷ []) "x" 6 3
+    -- 16 among them, also where a line would count the newcomer
+    ∷ refused (0x1000000B ∷ 0x20000000 ∷ 0x303FFFFF ∷ 0xF0000001 ∷ []) "11,100" 16 2
+    ∷ refused (0x1000000B ∷ 0x20000000 ∷ 0x303FFFFF ∷ 0xF0000001 ∷ []) "x" 16 2
     -- and before 7 to 10
     ∷ refused unheld "x" 14 1
     ∷ refused (two 0 0) "3,1" 15 1
@@ -144,4 +154,7 @@ resultCases =
     ∷ refused (two 0 0) "" 9 1
     ∷ taken (two 0 0) "2,1" 1 (two 0 1)
     ∷ refused three "2,1" 10 6
+    -- its sums are of the measures filled in
+    ∷ taken (filled 2097151) "2,100" 1 (filled 1)
+    ∷ refused (filled 2097151) "2,101" 8 1
     ∷ []

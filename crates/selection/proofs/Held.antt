@@ -33,7 +33,7 @@ proper n (l ∷ ls) (p, d) =
     all-more (Proper n) p
     (λ k m.
     let q = proper (l .number) ls d k m in
-    record { rises = omega (arith, p .rises, q .rises); payload = q .payload; old = q .old; new = q .new; held = q .held })
+    record { rises = omega (arith, p .rises, q .rises); payload = q .payload; old = q .old; new = q .new; newcomer = q .newcomer; held = q .held })
 
 -- a held lift has an old round
 pub somewhere : {n : ℕ} {l : Lift} → Proper n l → l .held ≡ true → 1 ≤ l .old .round

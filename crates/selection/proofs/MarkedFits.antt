@@ -39,7 +39,7 @@ listed-marked : (m : List Lift) (n : ℕ) (ls : List Lift) → All (λ l. names 
 unfolding marked Listed
 listed-marked m n [] h d = tt
 listed-marked m n (l ∷ ls) h (p, d) = (
-  record { rises = p .rises; payload = p .payload; old = p .old; new = p .new; held = h l (List·Memᴰ·head refl) },
+  record { rises = p .rises; payload = p .payload; old = p .old; new = p .new; newcomer = p .newcomer; held = h l (List·Memᴰ·head refl) },
   listed-marked m (l .number) ls (λ k i. h k (List·Memᴰ·tail i)) d,
 )
 

@@ -15,11 +15,15 @@ use Rattle.sheet.specs.Refusal.{firstRound, ofRounds, verdict}
 use Rattle.selection.specs.Choice.{donorsOf, liftsOf, heldAt, heldIn, planOf, liftAt, panelFrom, reply, written, output}
 use Rattle.selection.specs.Initial.{eligible, each, selectionsFrom, names, marked, product, odds, sumOver, overSelections}
 use Rattle.selection.specs.Fair.{share, kept}
-use Rattle.selection.specs.Worked.{cases, allRight, rightShares, rightKeeping}
+use Rattle.selection.specs.Worked.{cases, silentCases, allRight, rightShares, rightKeeping}
 
 pub all-right : allRight cases ≡ true
 unfolding total totalBy pick after drawFrom run S U D oldWeight newWeight weights G fresh firstOdds preliminary stayOr replacement keyfitz select plan outcome lifts writtenLifts fault readFrom those sends ofRound firstRound ofRounds verdict donorsOf liftsOf heldAt heldIn planOf liftAt panelFrom reply written output
 all-right = refl
+
+pub silent-right : allRight silentCases ≡ true
+unfolding total totalBy pick after drawFrom run S U D oldWeight newWeight weights G fresh firstOdds preliminary stayOr replacement keyfitz select plan outcome lifts writtenLifts fault readFrom those sends ofRound firstRound ofRounds verdict donorsOf liftsOf heldAt heldIn planOf liftAt panelFrom reply written output
+silent-right = refl
 
 pub exact-shares : rightShares ≡ true
 unfolding over total totalBy pick after paths weight S U D oldWeight newWeight weights G fresh firstOdds preliminary stayOr replacement keyfitz select plan those sends ofRound donorsOf liftsOf heldAt heldIn planOf liftAt eligible each selectionsFrom names marked product odds sumOver overSelections share

@@ -1,18 +1,17 @@
--- Small sheets with what is replied and written, as one table to be computed: the document's small rounds worked through, M1 to M11, and
--- the refusals because of what was lent, all with their numbers and words as literals; and the exact shares and keeping of small
--- sheets.
+-- Small sheets with what is replied and written, as tables to be computed: the document's small rounds worked through, M1 to M11, and the
+-- refusals because of what was lent; lifts that were not counted; all with their numbers and words as literals; and the exact shares and
+-- keeping of small sheets.
 use Prim.Native.Nat.{ℕ, _*_, _-_, _^_}
 use mathlib.Core.Bool.{Bool, true, false, not, _&&_}
 use mathlib.Core.List.{List, [], _∷_}
 use lib.Dec.{eqb, ltb}
 use lib.ListN.{length}
 use Rattle.laws.specs.Same.{same}
+use Rattle.laws.specs.Fraction.{Fraction}
 use Rattle.sheet.specs.Sheet.{Lift, sheetOf}
-use Rattle.sheet.specs.Rounds.{placeAt, sumOf}
 use Rattle.sheet.specs.Reply.{Reply, numbers}
 use Rattle.sheet.specs.Worked.{lift, example}
-use Rattle.sheet.specs.declared.Side.the-variants.{New}
-use Rattle.selection.specs.Choice.{liftAt, reply, output}
+use Rattle.selection.specs.Choice.{reply, output}
 use Rattle.selection.specs.Fair.{share, kept}
 
 -- a sheet, random words, a start and an output, with the reply and the output after the call
@@ -104,23 +103,44 @@ cases =
     ∷ refused [] [] 1 [] 1 0
     ∷ []
 
+-- the three lifts with these new measures, 12 held; 2,097,151 being "not counted"
+abbrev measured : ℕ → ℕ → ℕ → List ℕ
+measured a b c = sheetOf (lift 11 1 2 1 a false ∷ lift 12 1 3 1 b true ∷ lift 13 1 5 1 c false ∷ [])
+
+abbrev pub silentCases : List Case
+silentCases =
+    -- "the lift counts with its old measure": no word is read where none was counted, and none where the others' sum stays
+    choice (measured 2097151 2097151 2097151) [] 0 0x50200001 0x6000000C
+    ∷ choice (measured 1 2097151 6) [] 0 0x50200001 0x6000000C
+    -- S is 12, and T 10: 12 stays by 30 of its 36
+    ∷ choice (measured 4 2097151 2097151) (29 ∷ []) 1 0x50200001 0x6000000C
+    ∷ choice (measured 4 2097151 2097151) (30 ∷ 0 ∷ []) 2 0x50200002 0x6000000B
+    -- 16, like 1 to 10, before 11 to 13
+    ∷ refused (0x1000000B ∷ 0x20000000 ∷ 0x303FFFFF ∷ 0xF0000001 ∷ []) [] 1 [] 16 2
+    ∷ []
+
 -- lifts of old round 1, of which one goes elsewhere, and one of old round 2, in new round 1: one grows, another shrinks
 abbrev small : List Lift
 small = lift 1 1 1 1 2 true ∷ lift 2 2 1 1 1 false ∷ lift 3 1 1 2 1 false ∷ lift 4 2 2 0 0 true ∷ []
-
--- whether the lift at place j of round r has exactly b over S, multiplied out
-abbrev pub rightShare : List Lift → ℕ → ℕ → Bool
-rightShare ls r j =
-    eqb (share ls r j .num * sumOf New r ls) (placeAt New (liftAt r ls j) .measure * share ls r j .den) && ltb 0 (share ls r j .den)
-
--- every lift of both new rounds
-abbrev pub rightShares : Bool
-rightShares = rightShare small 1 0 && (rightShare small 1 1 && rightShare small 2 0)
 
 -- old 1, 2, new 2, 1 in one round: old weights 3 and 6, new 6 and 3
 abbrev exchanged : List Lift
 exchanged = lift 1 1 1 1 2 true ∷ lift 2 1 2 1 1 false ∷ []
 
--- "what the ways weigh whose lift is held in their own marking": 6 of 9
+-- old 1, 2, new 4 and not counted: S is 6, old weights 6 and 12, new 12 and 6
+abbrev silent : List Lift
+silent = lift 1 1 1 1 4 true ∷ lift 2 1 2 1 2097151 false ∷ []
+
+-- whether a fraction is n over d, multiplied out
+abbrev pub isRatio : Fraction → ℕ → ℕ → Bool
+isRatio x n d = eqb (x .num * d) (n * x .den) && ltb 0 (x .den)
+
+-- every lift of both new rounds of the first, and of the new round of the last, has exactly b over S
+abbrev pub rightShares : Bool
+rightShares =
+    isRatio (share small 1 0) 2 3
+    && (isRatio (share small 1 1) 1 3 && (isRatio (share small 2 0) 1 1 && (isRatio (share silent 1 0) 4 6 && isRatio (share silent 1 1) 2 6)))
+
+-- "what the ways weigh whose lift is held in their own marking"
 abbrev pub rightKeeping : Bool
-rightKeeping = eqb (kept exchanged 1 .num * 9) (6 * kept exchanged 1 .den) && ltb 0 (kept exchanged 1 .den)
+rightKeeping = isRatio (kept exchanged 1) 6 9 && isRatio (kept silent 1) 12 18

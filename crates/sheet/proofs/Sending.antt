@@ -12,7 +12,7 @@ use lib.ListN.{length}
 use borrow.Author.Tests.{le-ltb, ne-eqb, eqb-true}
 use Rattle.laws.specs.Sum.{over, Σ, indicator}
 use Rattle.laws.proofs.Sums.{over-ext, Σ-cut, Σ-const}
-use Rattle.sheet.specs.Sheet.{mostRounds, Lift, lifts}
+use Rattle.sheet.specs.Sheet.{mostRounds, oldKind, Lift, lifts}
 use Rattle.sheet.specs.Reading.{Legible}
 use Rattle.sheet.specs.Rounds.{comes, sends, donors}
 use Rattle.sheet.specs.Tables.{bits, bitOf}
@@ -45,13 +45,13 @@ donates first =
 
 -- ---- counted
 
-sends-none : (t r : ℕ) → ((l : Lift) → Placed (l .old) → comes t r l ≡ false) → (n : ℕ) (ls : List Lift) → Listed n ls → sends t r ls ≡ false
+sends-none : (t r : ℕ) → ((l : Lift) → Placed oldKind (l .old) → comes t r l ≡ false) → (n : ℕ) (ls : List Lift) → Listed n ls → sends t r ls ≡ false
 unfolding sends Listed
 sends-none t r h n [] d = refl
 sends-none t r h n (l ∷ ls) d = rw (h l (d .0 .old)) (sends-none t r h (l .number) ls (d .1))
 
 -- a newcomer brings no measure
-from-nowhere : (r : ℕ) (l : Lift) → Placed (l .old) → comes 0 r l ≡ false
+from-nowhere : (r : ℕ) (l : Lift) → Placed oldKind (l .old) → comes 0 r l ≡ false
 from-nowhere r l p = go (eqb (l .old .round) 0) refl
   where
     go : (t : Bool) → eqb (l .old .round) 0 ≡ t → t && (eqb (l .new .round) r && ltb 0 (l .old .measure)) ≡ false
@@ -59,7 +59,7 @@ from-nowhere r l p = go (eqb (l .old .round) 0) refl
     go false e = refl
 
 -- and no lift comes from a round beyond the last
-from-beyond : (t r : ℕ) → mostRounds < t → (l : Lift) → Placed (l .old) → comes t r l ≡ false
+from-beyond : (t r : ℕ) → mostRounds < t → (l : Lift) → Placed oldKind (l .old) → comes t r l ≡ false
 from-beyond t r h l p = rw (ne-eqb (l .old .round) t (λ e. omega (arith, p .round)))
 
 one-term : (f : ℕ → ℕ) → Σ 1 f ≡ f 0 + 0

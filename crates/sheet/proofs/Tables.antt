@@ -11,7 +11,7 @@ use lib.ListN.{length, getD, set, drop, replicate, length-set, length-replicate}
 use lib.Seq.{getD-set-same, getD-set-other, ext-getD}
 use borrow.Author.Tests.{eq-eqb, eqb-true, eqb-false}
 use Rattle.laws.specs.Sum.{totalBy, indicator}
-use Rattle.sheet.specs.Sheet.{mostRounds, kind, liftKind, heldKind, Lift, liftOf, lifts}
+use Rattle.sheet.specs.Sheet.{mostRounds, notCounted, kind, liftKind, heldKind, placeOf, Lift, liftOf, lifts}
 use Rattle.sheet.specs.Reading.{Legible}
 use Rattle.sheet.specs.Tables.{tabulate, table, fieldOf}
 use Rattle.sheet.specs.declared.Side.{Side}
@@ -101,7 +101,11 @@ field-le Number ws = omega arith
 field-le (Round Old) ws = omega arith
 field-le (Round New) ws = omega arith
 field-le (Measure Old) ws = omega arith
-field-le (Measure New) ws = omega arith
+field-le (Measure New) ws = either (eqb (placeOf (getD ws 2 0) .measure) notCounted) (placeOf (getD ws 1 0) .measure) (placeOf (getD ws 2 0) .measure) (omega arith) (omega arith)
+  where
+    either : (t : Bool) (m b : ℕ) → m ≤ 2 ^ 28 → b ≤ 2 ^ 28 → cond t m b ≤ 2 ^ 28
+    either true m b h k = h
+    either false m b h k = k
 field-le Held ws = flag (eqb (kind (getD ws 3 0)) heldKind)
   where
     flag : (t : Bool) → indicator t ≤ 2 ^ 28

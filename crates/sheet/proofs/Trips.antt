@@ -9,14 +9,18 @@ use native.Mathlib.Omega.{arith}
 use lib.ListN.{length, getD}
 use lib.Dec.{eqb, ltb}
 use borrow.Author.Tests.{eqb-true, eqb-false, eq-eqb, ne-eqb, leb-false, lt-leb, ltb-false, le-ltb, not-false}
-use Rattle.sheet.specs.Sheet.{mostLifts, mostRounds, largestSum, kind, payload, liftKind, oldKind, newKind, heldKind, endKind, Place, placeOf, Lift, lifts, word, placeWord, wordsOf, written, sheetOf}
-use Rattle.sheet.specs.Reading.{start, next, follows, outOfSequence, misnumbered, misplaced, miscounted, mismarked, fault, Reading, sound, unless, readFrom}
+use Rattle.sheet.specs.Sheet.{mostLifts, mostRounds, largestSum, notCounted, kind, payload, liftKind, oldKind, newKind, heldKind, endKind, Place, placeOf, Lift, lifts, word, placeWord, wordsOf, written, sheetOf}
+use Rattle.sheet.specs.Reading.{start, next, follows, outOfSequence, misnumbered, isPlace, tooLarge, beyond, misplaced, uncountedNewcomer, miscounted, mismarked, fault, Reading, sound, unless, readFrom}
 use Rattle.sheet.specs.Law.{Placed, Proper, Listed, Listable, ReadTheorem, WrittenTheorem, WritablePlace, AllWritable, BackTheorem}
 use Rattle.sheet.specs.declared.Before.{Before}
 
 -- what the words before tell, from its parts
-abbrev state : ℕ → ℕ → ℕ → ℕ → Before
-state k n o c = record { kind = k; number = n; old = o; lifts = c }
+abbrev state : ℕ → ℕ → Place → ℕ → Before
+state k n p c = record { kind = k; number = n; from = p .round; old = p .measure; lifts = c }
+
+-- the old place among it
+abbrev oldPlace : Before → Place
+oldPlace s = record { round = s .from; measure = s .old }
 
 -- the held mark of a lift, and what follows
 abbrev marked : Bool → List ℕ → List ℕ
@@ -36,36 +40,39 @@ either : {C : Type 0} (a b : Bool) → (a || b) ≡ true → (a ≡ true → C) 
 either true b h f g = f refl
 either false b h f g = g h
 
--- a number for the first of five tests that holds: 0 if none does
-none-holds : (a b c d e : Bool) → cond {A = ℕ} a 2 (cond b 3 (cond c 4 (cond d 5 (cond e 6 0)))) ≡ 0 → (a ≡ false) × (b ≡ false) × (c ≡ false) × (d ≡ false) × (e ≡ false)
-none-holds true b c d e h = absurd (omega arith)
-none-holds false true c d e h = absurd (omega arith)
-none-holds false false true d e h = absurd (omega arith)
-none-holds false false false true e h = absurd (omega arith)
-none-holds false false false false true h = absurd (omega arith)
-none-holds false false false false false h = (refl, refl, refl, refl, refl)
+-- a number for the first of some tests that holds: 0 if none does
+not-held : (n : ℕ) (a : Bool) {r : ℕ} → cond a (suc n) r ≡ 0 → (a ≡ false) × (r ≡ 0)
+not-held n true h = absurd (omega arith)
+not-held n false h = (refl, h)
 
 -- what a word without a fault tells, by its kind
 record Passes (s : Before) (w : ℕ) : Type 0 where
   order : follows (s .kind) (kind w) ≡ true
   number : kind w ≡ liftKind → s .number < payload w
-  place : (eqb (kind w) oldKind || eqb (kind w) newKind) ≡ true → Placed (placeOf w)
+  place : isPlace (kind w) ≡ true → Placed (kind w) (placeOf w)
+  newcomer : kind w ≡ newKind → s .from ≡ 0 → placeOf w .measure ≡ notCounted → ⊥
   count : kind w ≡ endKind → (payload w ≡ s .lifts) × (payload w ≤ mostLifts)
   mark : kind w ≡ heldKind → (payload w ≡ 0) × (0 < s .old)
 
 passes : (s : Before) (w : ℕ) → fault s w ≡ 0 → Passes s w
 unfolding fault
 passes s w h =
-    let f = none-holds (outOfSequence s w) (misnumbered s w) (misplaced w) (miscounted s w) (mismarked s w) h in
+    let f2 = not-held 1 (outOfSequence s w) h in
+    let f3 = not-held 2 (misnumbered s w) (f2 .1) in
+    let f4 = not-held 3 (misplaced w) (f3 .1) in
+    let f16 = not-held 15 (uncountedNewcomer s w) (f4 .1) in
+    let f5 = not-held 4 (miscounted s w) (f16 .1) in
+    let f6 = not-held 5 (mismarked s w) (f5 .1) in
     record {
-      order = not-false _ (f .0);
-      number = λ e. leb-false _ _ (or-false (eqb (payload w) 0) _ (rw e at (f .1)) .1);
+      order = not-false _ (f2 .0);
+      number = λ e. leb-false _ _ (or-false (eqb (payload w) 0) _ (rw e at (f3 .0)) .1);
       place = λ e.
-          let g = or-false _ _ (rw e at (f .2)) in
+          let g = or-false _ _ (rw e at (f4 .0)) in
           let b = or-false (ltb mostRounds (placeOf w .round)) _ (g .0) in
-          record { round = ltb-false _ _ (b .0); measure = ltb-false _ _ (b .1); nowhere = λ z. eqb-true _ _ (not-false _ (rw (eq-eqb _ _ z) at (g .1))) };
-      count = λ e. let g = or-false _ _ (rw e at (f .3)) in (eqb-true _ _ (not-false _ (g .0)), ltb-false _ _ (g .1));
-      mark = λ e. let g = or-false _ _ (rw e at (f .4)) in (eqb-true _ _ (not-false _ (g .0)), omega (arith, eqb-false (s .old) 0 (g .1)));
+          record { round = ltb-false _ _ (b .0); measure = b .1; nowhere = λ z. eqb-true _ _ (not-false _ (rw (eq-eqb _ _ z) at (g .1))) };
+      newcomer = λ e z. eqb-false _ _ (rw (e, eq-eqb _ _ z) at (f16 .0));
+      count = λ e. let g = or-false _ _ (rw e at (f5 .0)) in (eqb-true _ _ (not-false _ (g .0)), ltb-false _ _ (g .1));
+      mark = λ e. let g = or-false _ _ (rw e at (f6 .0)) in (eqb-true _ _ (not-false _ (g .0)), omega (arith, eqb-false (s .old) 0 (g .1)));
     }
 
 -- ---- words that pass
@@ -104,8 +111,8 @@ unmarked t e = rw (not-eq-not {b = false} .0 (λ h. true≢false (sym (t .mark h
 
 -- by the kind of the first word: a lift, the end or a held mark
 by-kind : (s : Before) (i w : ℕ) (ws : List ℕ) → Free (s .kind) → readFrom s i (w ∷ ws) ≡ sound
-    → (kind w ≡ liftKind → s .number < payload w → readFrom (state liftKind (payload w) (s .old) (s .lifts + 1)) (i + 1) ws ≡ sound → Told s (w ∷ ws))
-    → (readFrom (state heldKind (s .number) (s .old) (s .lifts)) (i + 1) ws ≡ sound → Told (state heldKind (s .number) (s .old) (s .lifts)) ws)
+    → (kind w ≡ liftKind → s .number < payload w → readFrom (state liftKind (payload w) (oldPlace s) (s .lifts + 1)) (i + 1) ws ≡ sound → Told s (w ∷ ws))
+    → (readFrom (state heldKind (s .number) (oldPlace s) (s .lifts)) (i + 1) ws ≡ sound → Told (state heldKind (s .number) (oldPlace s) (s .lifts)) ws)
     → Told s (w ∷ ws)
 unfolding written Listed
 by-kind s i w ws o h lift held =
@@ -125,16 +132,17 @@ by-kind s i w ws o h lift held =
     record { held = true; mark = λ _. (k .0, z .1); list = t .list; listed = t .listed; few = t .few; back = ap₂ _∷_ (omega (arith, z .0)) (unmarked t refl) })
 
 -- and the words of one lift more before them
-lift-told : (s : Before) (w v u : ℕ) (ws : List ℕ) → kind w ≡ liftKind → s .number < payload w → kind v ≡ oldKind → Placed (placeOf v) → kind u ≡ newKind → Placed (placeOf u)
-    → Told (state newKind (payload w) (placeOf v .measure) (s .lifts + 1)) ws → Told s (w ∷ v ∷ u ∷ ws)
+lift-told : (s : Before) (w v u : ℕ) (ws : List ℕ) → kind w ≡ liftKind → s .number < payload w → kind v ≡ oldKind → Placed oldKind (placeOf v) → kind u ≡ newKind
+    → Placed newKind (placeOf u) → (placeOf v .round ≡ 0 → placeOf u .measure ≡ notCounted → ⊥)
+    → Told (state newKind (payload w) (placeOf v) (s .lifts + 1)) ws → Told s (w ∷ v ∷ u ∷ ws)
 unfolding written Listed
-lift-told s w v u ws a l b old c new t =
+lift-told s w v u ws a l b old c new known t =
     let e : s .lifts + suc (length (t .list)) ≡ s .lifts + 1 + length (t .list) = omega arith in
     record {
       held = false;
       mark = λ q. absurd (false≢true q);
       list = record { number = payload w; old = placeOf v; new = placeOf u; held = t .held } ∷ t .list;
-      listed = (record { rises = l; payload = omega arith; old = old; new = new; held = λ q. t .mark q .1 }, t .listed);
+      listed = (record { rises = l; payload = omega arith; old = old; new = new; newcomer = known; held = λ q. t .mark q .1 }, t .listed);
       few = omega (arith, t .few);
       back = rw e (ap₂ _∷_ (omega arith) (ap₂ _∷_ (omega arith) (ap₂ _∷_ (omega arith) (t .back))));
     }
@@ -154,7 +162,7 @@ parse s i (w ∷ v ∷ u ∷ ws) o h =
     let b = eqb-true (kind v) oldKind (f .0 .order) in
     let e = first-passes _ _ u ws (rw b at (f .1)) in
     let c = eqb-true (kind u) newKind (e .0 .order) in
-    lift-told s w v u ws a l b (f .0 .place (rw b)) c (e .0 .place (rw c)) (parse _ _ ws (λ j. refl) (rw c at (e .1))))
+    lift-told s w v u ws a l b (rw b at (f .0 .place (rw b))) c (rw c at (e .0 .place (rw c))) (e .0 .newcomer c) (parse _ _ ws (λ j. refl) (rw c at (e .1))))
     (parse _ _ (v ∷ u ∷ ws) (λ j. refl))
 
 -- ---- the words of lifts
@@ -175,8 +183,16 @@ module _ (k : ℕ) (p : Place) (h : WritablePlace p) where
   measure-place : placeOf (placeWord k p) .measure ≡ p .measure
   measure-place = omega arith
 
-pub placed-writable : {p : Place} → Placed p → WritablePlace p
-placed-writable h = record { round = omega (arith, h .round); measure = omega (arith, h .measure) }
+-- a measure that is not too large has 21 bits
+measure-below : (k m : ℕ) → tooLarge k m ≡ false → m < 2 ^ 21
+measure-below k m h = go (ltb largestSum m) refl h
+  where
+    go : (a : Bool) → ltb largestSum m ≡ a → (a && not (eqb k newKind && eqb m notCounted)) ≡ false → m < 2 ^ 21
+    go true e q = omega (arith, eqb-true m notCounted (and-eq-true-iff (eqb k newKind) (eqb m notCounted) .0 (not-false _ q) .1))
+    go false e q = omega (arith, ltb-false largestSum m e)
+
+pub placed-writable : {k : ℕ} {p : Place} → Placed k p → WritablePlace p
+placed-writable {k} {p} h = record { round = omega (arith, h .round); measure = measure-below k (p .measure) (h .measure) }
 
 listed-writable : (n : ℕ) (ls : List Lift) → Listed n ls → AllWritable ls
 unfolding Listed AllWritable
@@ -184,31 +200,36 @@ listed-writable n [] h = tt
 listed-writable n (l ∷ ls) (p, q) =
     (record { number = p .payload; old = placed-writable (p .old); new = placed-writable (p .new) }, listed-writable (l .number) ls q)
 
-not-misplaced : (p : Place) → Placed p → (ltb mostRounds (p .round) || ltb largestSum (p .measure) || eqb (p .round) 0 && not (eqb (p .measure) 0)) ≡ false
-not-misplaced p h = rw (le-ltb mostRounds (p .round) (h .round), le-ltb largestSum (p .measure) (h .measure)) (go (eqb (p .round) 0) refl)
+-- b is not so where a number is n
+and-false : (m n : ℕ) (b : Bool) → (m ≡ n → b ≡ false) → (eqb m n && b) ≡ false
+and-false m n b h = go (eqb m n) refl
   where
-    go : (t : Bool) → eqb (p .round) 0 ≡ t → (t && not (eqb (p .measure) 0)) ≡ false
-    go true e = ap not (eq-eqb _ _ (h .nowhere (eqb-true _ _ e)))
+    go : (t : Bool) → eqb m n ≡ t → (t && b) ≡ false
+    go true e = h (eqb-true m n e)
     go false e = refl
 
+not-beyond : (k : ℕ) (p : Place) → Placed k p → beyond k (p .round) (p .measure) ≡ false
+not-beyond k p h = rw (le-ltb mostRounds (p .round) (h .round), h .measure) (and-false (p .round) 0 _ (λ e. ap not (eq-eqb _ _ (h .nowhere e))))
+
 -- a held mark passes if what follows does
-mark-passes : (n o c i : ℕ) (ws : List ℕ) (held : Bool) → (held ≡ true → 0 < o) → ((k j : ℕ) → Free k → readFrom (state k n o c) j ws ≡ sound)
-    → readFrom (state newKind n o c) i (marked held ws) ≡ sound
+mark-passes : (n : ℕ) (p : Place) (c i : ℕ) (ws : List ℕ) (held : Bool) → (held ≡ true → 0 < p .measure)
+    → ((k j : ℕ) → Free k → readFrom (state k n p c) j ws ≡ sound) → readFrom (state newKind n p c) i (marked held ws) ≡ sound
 unfolding readFrom fault
-mark-passes n o c i ws true m r = let l = m refl in rw (ne-eqb o 0 (omega arith)) (r heldKind (i + 1) (λ j. refl))
-mark-passes n o c i ws false m r = r newKind i (λ j. refl)
+mark-passes n p c i ws true m r = let l = m refl in rw (ne-eqb (p .measure) 0 (omega arith)) (r heldKind (i + 1) (λ j. refl))
+mark-passes n p c i ws false m r = r newKind i (λ j. refl)
 
 -- a lift passes if what follows does
 lift-passes : (s : Before) (i : ℕ) (ws : List ℕ) (l : Lift) → Free (s .kind) → Proper (s .number) l
-    → ((k j : ℕ) → Free k → readFrom (state k (l .number) (l .old .measure) (s .lifts + 1)) j ws ≡ sound) → readFrom s i (wordsOf l ++ ws) ≡ sound
+    → ((k j : ℕ) → Free k → readFrom (state k (l .number) (l .old) (s .lifts + 1)) j ws ≡ sound) → readFrom s i (wordsOf l ++ ws) ≡ sound
 unfolding readFrom fault
 lift-passes s i ws l o p r =
     let u = placed-writable (p .old) in
     let v = placed-writable (p .new) in
     rw (kind-word liftKind (l .number) (p .payload), payload-word liftKind (l .number) (p .payload), o liftKind, ne-eqb (l .number) 0 (omega arith), lt-leb (l .number) (s .number) (p .rises))
-    (rw (kind-place oldKind (l .old) u, round-place oldKind (l .old) u, measure-place oldKind (l .old) u, not-misplaced (l .old) (p .old))
-    (rw (kind-place newKind (l .new) v, round-place newKind (l .new) v, measure-place newKind (l .new) v, not-misplaced (l .new) (p .new))
-    (mark-passes _ _ _ _ ws (l .held) (p .held) r)))
+    (rw (kind-place oldKind (l .old) u, round-place oldKind (l .old) u, measure-place oldKind (l .old) u, not-beyond oldKind (l .old) (p .old))
+    (rw (kind-place newKind (l .new) v, round-place newKind (l .new) v, measure-place newKind (l .new) v, not-beyond newKind (l .new) (p .new))
+    (rw (and-false (l .old .round) 0 _ (λ e. ne-eqb (l .new .measure) notCounted (p .newcomer e)))
+    (mark-passes _ _ _ _ ws (l .held) (p .held) r))))
 
 -- lifts pass, with an end word that counts them
 lifts-pass : (s : Before) (i e : ℕ) (ls : List Lift) → Free (s .kind) → Listed (s .number) ls → e ≡ s .lifts + length ls → e ≤ mostLifts

@@ -39,8 +39,8 @@ behind ws i = i + (3 + indicator (liftOf (drop i ws) .held))
 -- what holds at a lift
 pub record Turn (ws : List ℕ) (i : ℕ) : Type 0 where
   pub room : i + 3 < length ws
-  pub old : Placed (liftOf (drop i ws) .old)
-  pub new : Placed (liftOf (drop i ws) .new)
+  pub old : Placed oldKind (liftOf (drop i ws) .old)
+  pub new : Placed newKind (liftOf (drop i ws) .new)
   pub here : lifts (drop i ws) ≡ liftOf (drop i ws) ∷ lifts (drop (behind ws i) ws)
   pub next : Between ws (behind ws i)
 
@@ -118,8 +118,8 @@ module _ {ws : List ℕ} {i : ℕ} (b : Between ws i) where
       ap (λ t. drop (i + (3 + indicator t)) ws) (ap (λ x. x .held) s) ∙ rw (← drop-drop (3 + indicator (l .held)) i ws, q) (drop-one l rest) in
       record {
         room = omega (arith, left-some l ls e);
-        old = subst Placed (sym (ap (λ x. x .old) s)) (p .old);
-        new = subst Placed (sym (ap (λ x. x .new) s)) (p .new);
+        old = subst (Placed oldKind) (sym (ap (λ x. x .old) s)) (p .old);
+        new = subst (Placed newKind) (sym (ap (λ x. x .new) s)) (p .new);
         here = rw d o;
         next = record { before = l .number; listed = rw (d, t) ((rw e at (b .listed)) .1); back = rw (d, t) refl };
       }

@@ -4,26 +4,27 @@ use mathlib.Core.Path.{_≡_}
 use mathlib.Core.Bool.{Bool, true, false}
 use mathlib.Core.List.{List, [], _∷_}
 use lib.ListN.{length}
-use Rattle.sheet.specs.Sheet.{mostLifts, mostRounds, largestSum, Place, Lift, lifts, sheetOf}
-use Rattle.sheet.specs.Reading.{Numbered, reading, sound, Legible}
+use Rattle.sheet.specs.Sheet.{mostLifts, mostRounds, notCounted, oldKind, newKind, Place, Lift, lifts, sheetOf}
+use Rattle.sheet.specs.Reading.{Numbered, tooLarge, reading, sound, Legible}
 use Rattle.sheet.specs.Rounds.{inUse}
 use Rattle.sheet.specs.Refusal.{refused, fits, unheld, oversize, unmeasured, crowded, verdict}
 use Rattle.sheet.specs.declared.Side.the-variants.{Old, New}
 
 -- ---- reading and writing
 
--- a place that a sheet can tell
-pub record Placed (p : Place) : Type 0 where
+-- a place that a word of kind k can tell
+pub record Placed (k : ℕ) (p : Place) : Type 0 where
   pub round : p .round ≤ mostRounds
-  pub measure : p .measure ≤ largestSum
+  pub measure : tooLarge k (p .measure) ≡ false
   pub nowhere : p .round ≡ 0 → p .measure ≡ 0
 
 -- a lift that a sheet can tell behind one of number n
 pub record Proper (n : ℕ) (l : Lift) : Type 0 where
   pub rises : n < l .number
   pub payload : l .number < 2 ^ 28
-  pub old : Placed (l .old)
-  pub new : Placed (l .new)
+  pub old : Placed oldKind (l .old)
+  pub new : Placed newKind (l .new)
+  pub newcomer : l .old .round ≡ 0 → l .new .measure ≡ notCounted → ⊥
   pub held : l .held ≡ true → 0 < l .old .measure
 
 -- lifts that a sheet can tell behind one of number n: "Lift numbers rise."

@@ -1,11 +1,12 @@
--- Refusals 1 to 6 of document 01: the length, and the words one by one, "the first faulty word deciding, 2 before the others".
+-- Refusals 1 to 6 of document 01 and 16 of document 02 (Card 2): the length, and the words one by one, "the first faulty word deciding, 2
+-- before the others".
 use Prim.Native.Nat.{ℕ, zero, suc, _+_, _≤_}
 use mathlib.Core.Path.{_≡_}
 use mathlib.Core.Bool.{Bool, false, cond, not, _&&_, _||_}
 use mathlib.Core.List.{List, [], _∷_}
 use lib.ListN.{length}
 use lib.Dec.{eqb, leb, ltb}
-use Rattle.sheet.specs.Sheet.{mostLifts, mostRounds, largestSum, longest, kind, payload, liftKind, oldKind, newKind, heldKind, endKind, placeOf}
+use Rattle.sheet.specs.Sheet.{mostLifts, mostRounds, largestSum, longest, notCounted, kind, payload, liftKind, oldKind, newKind, heldKind, endKind, placeOf}
 use Rattle.sheet.specs.declared.Before.{Before}
 
 -- "1. Length 0 or above 12,389 words."
@@ -16,14 +17,15 @@ mislong ws = eqb (length ws) 0 || ltb longest (length ws)
 
 -- what the words before the first one tell: no kind, no lift
 abbrev pub start : Before
-start = record { kind = 0; number = 0; old = 0; lifts = 0 }
+start = record { kind = 0; number = 0; from = 0; old = 0; lifts = 0 }
 
--- what a word adds: its kind, a lift's number, a lift's old measure, one lift more
+-- what a word adds: its kind, a lift's number, a lift's old round and measure, one lift more
 abbrev pub next : Before → ℕ → Before
 next s w =
     record {
       kind = kind w;
       number = cond (eqb (kind w) liftKind) (payload w) (s .number);
+      from = cond (eqb (kind w) oldKind) (placeOf w .round) (s .from);
       old = cond (eqb (kind w) oldKind) (placeOf w .measure) (s .old);
       lifts = cond (eqb (kind w) liftKind) (s .lifts + 1) (s .lifts);
     }
@@ -46,11 +48,26 @@ outOfSequence s w = not (follows (s .kind) (kind w))
 abbrev pub misnumbered : Before → ℕ → Bool
 misnumbered s w = eqb (kind w) liftKind && (eqb (payload w) 0 || leb (payload w) (s .number))
 
+-- the kinds of places
+abbrev pub isPlace : ℕ → Bool
+isPlace k = eqb k oldKind || eqb k newKind
+
+-- "measure above 1,048,576", but "not counted" in a new place, of a word of kind k
+abbrev pub tooLarge : (k measure : ℕ) → Bool
+tooLarge k m = ltb largestSum m && not (eqb k newKind && eqb m notCounted)
+
+-- "Round above 100, measure above 1,048,576, or round 0 with a measure other than 0", of a word of kind k; so "Refusal 4 no longer meets
+-- that value in a new place with a real round", from 1 to 100
+abbrev pub beyond : (k round measure : ℕ) → Bool
+beyond k r m = ltb mostRounds r || tooLarge k m || eqb r 0 && not (eqb m 0)
+
 -- "4. Round above 100, measure above 1,048,576, or round 0 with a measure other than 0."
 abbrev pub misplaced : ℕ → Bool
-misplaced w =
-    (eqb (kind w) oldKind || eqb (kind w) newKind)
-    && (ltb mostRounds (placeOf w .round) || ltb largestSum (placeOf w .measure) || eqb (placeOf w .round) 0 && not (eqb (placeOf w .measure) 0))
+misplaced w = isPlace (kind w) && beyond (kind w) (placeOf w .round) (placeOf w .measure)
+
+-- "16 when a newcomer is not counted"; "Round 0 in an old place is a newcomer"
+abbrev pub uncountedNewcomer : Before → ℕ → Bool
+uncountedNewcomer s w = eqb (kind w) newKind && (eqb (s .from) 0 && eqb (placeOf w .measure) notCounted)
 
 -- "5. End count not the number of lifts, or above 4,096."
 abbrev pub miscounted : Before → ℕ → Bool
@@ -60,10 +77,16 @@ miscounted s w = eqb (kind w) endKind && (not (eqb (payload w) (s .lifts)) || lt
 abbrev pub mismarked : Before → ℕ → Bool
 mismarked s w = eqb (kind w) heldKind && (not (eqb (payload w) 0) || eqb (s .old) 0)
 
--- the number of the first refusal that applies to a word, 0 if none does
+-- the number of the first refusal that applies to a word, 0 if none does; 16 "wherever 4 is checked, after it"
 unfoldable pub fault : Before → ℕ → ℕ
 fault s w =
-    cond (outOfSequence s w) 2 (cond (misnumbered s w) 3 (cond (misplaced w) 4 (cond (miscounted s w) 5 (cond (mismarked s w) 6 0))))
+    cond (outOfSequence s w) 2
+    (cond (misnumbered s w) 3
+    (cond (misplaced w) 4
+    (cond (uncountedNewcomer s w) 16
+    (cond (miscounted s w) 5
+    (cond (mismarked s w) 6
+    0)))))
 
 -- ---- the first faulty word
 
@@ -93,11 +116,11 @@ readFrom s i (w ∷ ws) = unless (fault s w) i (readFrom (next s w) (i + 1) ws)
 abbrev pub reading : List ℕ → Reading
 reading ws = readFrom start 0 ws
 
--- refusals 1 to 6: "Order: 1; then the words one by one, the first faulty word deciding"; of 1, "Place: the length."
+-- refusals 1 to 6 and 16: "Order: 1; then the words one by one, the first faulty word deciding"; of 1, "Place: the length."
 abbrev pub ofWords : List ℕ → Reading
 ofWords ws = cond (mislong ws) (faulty (numbered 1 (length ws))) (reading ws)
 
--- none of the refusals 1 to 6 applies: the words are not too many, and none is faulty (so there is one)
+-- none of the refusals 1 to 6 and 16 applies: the words are not too many, and none is faulty (so there is one)
 pub record Legible (ws : List ℕ) : Type 0 where
   pub short : length ws ≤ longest
   pub read : reading ws ≡ sound

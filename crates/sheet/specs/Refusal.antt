@@ -10,7 +10,7 @@ use Rattle.sheet.specs.Rounds.{rounds, named, inUse, sumOf, heldIn, dono
 use Rattle.sheet.specs.declared.Side.{Side}
 use Rattle.sheet.specs.declared.Side.the-variants.{Old, New}
 use Rattle.sheet.specs.declared.Refusal.{Refusal}
-use Rattle.sheet.specs.declared.Refusal.the-variants.{Length, Sequence, Number, Place, Count, Held, Unheld, Oversize, Unmeasured, Crowded}
+use Rattle.sheet.specs.declared.Refusal.the-variants.{Length, Sequence, Number, Place, Uncounted, Count, Held, Unheld, Oversize, Unmeasured, Crowded}
 use Rattle.sheet.specs.declared.Judged.{Judged}
 use Rattle.sheet.specs.declared.Judged.the-variants.{Faulty, Sound}
 use Rattle.sheet.specs.declared.Checked.{Checked}
@@ -73,6 +73,7 @@ refusal (Length n) = numbered 1 n
 refusal (Sequence i) = numbered 2 i
 refusal (Number i) = numbered 3 i
 refusal (Place i) = numbered 4 i
+refusal (Uncounted i) = numbered 16 i
 refusal (Count i) = numbered 5 i
 refusal (Held i) = numbered 6 i
 refusal (Unheld r) = numbered 7 r

@@ -1,10 +1,10 @@
--- The rounds of a list of lifts: their sums, held lifts and donors ("The sheet" and "One round" of document 01).
+-- The rounds of a list of lifts: their sums, held lifts and donors ("The sheet" and "One round" of document 01, with Card 2 of document 02).
 use Prim.Native.Nat.{ℕ, zero, suc}
 use mathlib.Core.Bool.{Bool, false, cond, _&&_, _||_}
 use mathlib.Core.List.{List, [], _∷_}
 use lib.Dec.{eqb, ltb}
 use Rattle.laws.specs.Sum.{totalBy, indicator}
-use Rattle.sheet.specs.Sheet.{mostRounds, Place, Lift}
+use Rattle.sheet.specs.Sheet.{mostRounds, notCounted, Place, Lift}
 use Rattle.sheet.specs.declared.Side.{Side}
 use Rattle.sheet.specs.declared.Side.the-variants.{Old, New}
 
@@ -17,10 +17,14 @@ those p a (suc n) = cond (p a) (a ∷ those p (suc a) n) (those p (suc a) n)
 abbrev pub rounds : (ℕ → Bool) → List ℕ
 rounds p = those p 1 mostRounds
 
--- a lift's old or new place
+-- the new measure that counts, from both as they are written: not counted, "the lift counts with its old measure"
+abbrev pub filledIn : (old new : ℕ) → ℕ
+filledIn old new = cond (eqb new notCounted) old new
+
+-- a lift's old place, or its new one with the measure that counts: "Sums, weights and shares are taken from the measures so filled in."
 abbrev pub placeAt : Side → Lift → Place
 placeAt Old l = l .old
-placeAt New l = l .new
+placeAt New l = record { round = l .new .round; measure = filledIn (l .old .measure) (l .new .measure) }
 
 -- how many lifts name round r
 abbrev pub named : Side → ℕ → List Lift → ℕ

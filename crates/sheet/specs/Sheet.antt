@@ -1,4 +1,4 @@
--- "The sheet" of document 01: its words, the lifts that they tell, and the words of a list of lifts.
+-- "The sheet" of document 01, with Card 2 of document 02: its words, the lifts that they tell, and the words of a list of lifts.
 use Prim.Native.Nat.{ℕ, _+_, _*_, _/_, _%_, _^_}
 use mathlib.Core.Bool.{Bool, cond}
 use mathlib.Core.List.{List, [], _∷_, _++_}
@@ -18,6 +18,10 @@ mostRounds = 100
 -- "each sum of a round's measures at most 1,048,576"; no measure is above it either
 abbrev pub largestSum : ℕ
 largestSum = 1048576
+
+-- "the lower 21 bits of a new place, all ones, mean 'not counted'": what then stands for the new measure
+abbrev pub notCounted : ℕ
+notCounted = 2097151
 
 -- three words for each lift, a held word for each old round, and the end word: 12,389
 abbrev pub longest : ℕ
@@ -48,7 +52,7 @@ heldKind = 4
 abbrev pub endKind : ℕ
 endKind = 15
 
--- an old or a new place
+-- an old or a new place, as it is written
 pub record Place : Type 0 where
   pub round : ℕ
   pub measure : ℕ
@@ -59,6 +63,7 @@ placeOf w = record { round = payload w / 2 ^ 21; measure = payload w % 2 ^ 21 }
 
 -- ---- lifts
 
+-- a lift as it is written
 pub record Lift : Type 0 where
   pub number : ℕ
   pub old : Place

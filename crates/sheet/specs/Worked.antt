@@ -41,6 +41,10 @@ example =
 abbrev single : ℕ → ℕ → ℕ → ℕ → List ℕ
 single t m r b = sheetOf (lift 1 t m r b true ∷ [])
 
+-- one held lift whose places are told by these words
+abbrev told : ℕ → ℕ → List ℕ
+told old new = 0x1000000B ∷ old ∷ new ∷ 0x40000000 ∷ 0xF0000001 ∷ []
+
 -- two lifts of old round 1 that make up its sum, and that of new round 1
 abbrev sums : ℕ → ℕ → List ℕ
 sums old new = sheetOf (lift 1 1 1 1 1 true ∷ lift 2 1 (old - 1) 1 (new - 1) false ∷ [])
@@ -80,6 +84,28 @@ cases =
     -- "Round 0 in an old place is a newcomer, in a new place a withdrawn lift, and its measure is then 0."
     ∷ case (single 3 1 0 0) (fits 1 0)
     ∷ case (single 3 1 0 1) (refused (numbered 4 2))
+    -- "the lower 21 bits of a new place, all ones, mean 'not counted'": in rounds 1 and 100; one less is a measure
+    ∷ case (told 0x20200001 0x303FFFFF) (fits 1 1)
+    ∷ case (told 0x20200001 0x3C9FFFFF) (fits 1 1)
+    ∷ case (told 0x20200001 0x303FFFFE) (refused (numbered 4 2))
+    -- "Refusal 4 no longer meets that value in a new place with a real round": in round 0, round 101 and an old place it does
+    ∷ case (told 0x20200001 0x301FFFFF) (refused (numbered 4 2))
+    ∷ case (told 0x20200001 0x3CBFFFFF) (refused (numbered 4 2))
+    ∷ case (told 0x203FFFFF 0x30200001) (refused (numbered 4 1))
+    -- "16 when a newcomer is not counted; place the word, wherever 4 is checked, after it"
+    ∷ case (told 0x20000000 0x303FFFFF) (refused (numbered 16 2))
+    ∷ case (told 0x20000000 0x3C9FFFFF) (refused (numbered 16 2))
+    ∷ case (told 0x20000000 0x301FFFFF) (refused (numbered 4 2))
+    ∷ case (told 0x20000000 0x3CBFFFFF) (refused (numbered 4 2))
+    -- the first faulty word decides here too; 2 comes first; each lift goes by its own old round
+    ∷ case (0x1000000B ∷ 0x20000000 ∷ 0x303FFFFF ∷ 0 ∷ []) (refused (numbered 16 2))
+    ∷ case (0x1000000B ∷ 0x303FFFFF ∷ []) (refused (numbered 2 1))
+    ∷ case (sheetOf (lift 1 0 0 1 1 false ∷ lift 2 1 1 1 2097151 true ∷ [])) (fits 2 1)
+    ∷ case (sheetOf (lift 1 1 1 1 1 true ∷ lift 2 0 0 1 2097151 false ∷ [])) (refused (numbered 16 6))
+    -- "the lift counts with its old measure", 0 too: sums of 1,048,576 and 1,048,577, and a sum of 0
+    ∷ case (sheetOf (lift 1 1 1048575 1 2097151 true ∷ lift 2 0 0 1 1 false ∷ [])) (fits 2 1)
+    ∷ case (sheetOf (lift 1 1 1048576 1 2097151 true ∷ lift 2 0 0 1 1 false ∷ [])) (refused (numbered 8 1))
+    ∷ case (sheetOf (lift 1 1 1 1 1 true ∷ lift 2 1 0 4 2097151 false ∷ [])) (refused (numbered 9 4))
     -- "5. End count not the number of lifts"
     ∷ case (0xF0000001 ∷ 0xF0000001 ∷ []) (refused (numbered 5 0))
     -- "6. A held word with payload other than 0"
@@ -105,7 +131,7 @@ cases =
 
 -- what the words before an end word tell behind n lifts
 abbrev behind : ℕ → Before
-behind n = record { kind = 3; number = n; old = 0; lifts = n }
+behind n = record { kind = 3; number = n; from = 0; old = 0; lifts = n }
 
 -- "5. End count not the number of lifts, or above 4,096.": behind 4,096 lifts and behind 4,097
 abbrev pub rightEnds : Bool

@@ -6,8 +6,8 @@ ghost use lib.Dec.{ltb};
 ghost use lib.ListN.{length, getD, drop};
 ghost use Rattle.laws.specs.Sum.{indicator};
 ghost use Rattle.sheet.specs.Sheet.{longest, kind as kindOf, payload as payloadOf, placeOf, liftOf, lifts, word as wordOf};
-ghost use Rattle.sheet.specs.Reading.{next as nextOf, follows as followsOf, misnumbered as misnumberedOf, misplaced as misplacedOf, miscounted as miscountedOf, mismarked as mismarkedOf, fault, unless, sound, reading, ofWords, Legible};
-ghost use Rattle.sheet.specs.Rounds.{rounds, placeAt, inUse};
+ghost use Rattle.sheet.specs.Reading.{next as nextOf, follows as followsOf, misnumbered as misnumberedOf, isPlace, tooLarge as tooLargeOf, beyond as beyondOf, misplaced as misplacedOf, uncountedNewcomer as uncountedNewcomerOf, miscounted as miscountedOf, mismarked as mismarkedOf, fault, unless, sound, reading, ofWords, Legible};
+ghost use Rattle.sheet.specs.Rounds.{rounds, filledIn as filledInOf, placeAt, inUse};
 ghost use Rattle.sheet.specs.Refusal.{unheld, oversize, unmeasured, crowded, ofRounds, verdict, refusal, told, toldOfWords};
 ghost use Rattle.sheet.specs.Tables.{fieldOf, tallyOf, donorsOf, bitOf, startsOf, ByRound, breaks as breaksOf, first as firstOf};
 
@@ -23,6 +23,8 @@ impl Sheet {
     pub const MOST_ROUNDS: usize = 100;
 
     pub const LARGEST_SUM: u64 = 1048576;
+    // What stands for the new measure of a lift that was not counted: 21 bits, all ones.
+    pub const NOT_COUNTED: u64 = 0x1F_FFFF;
     // Three words for each lift, a held word for each old round, and the end word.
     pub const LONGEST: usize = 3 * Self::MOST_LIFTS + Self::MOST_ROUNDS + 1;
     // How many numbers a table by round has: rounds from 0 up.
@@ -97,6 +99,7 @@ pub enum Refusal {
     Sequence(usize),
     Number(usize),
     Place(usize),
+    Uncounted(usize),
     Count(usize),
     Held(usize),
     Unheld(usize),
@@ -115,6 +118,7 @@ impl Refusal {
             Refusal::Sequence(_) => 2,
             Refusal::Number(_) => 3,
             Refusal::Place(_) => 4,
+            Refusal::Uncounted(_) => 16,
             Refusal::Count(_) => 5,
             Refusal::Held(_) => 6,
             Refusal::Unheld(_) => 7,
@@ -133,6 +137,7 @@ impl Refusal {
             Refusal::Sequence(i) => i,
             Refusal::Number(i) => i,
             Refusal::Place(i) => i,
+            Refusal::Uncounted(i) => i,
             Refusal::Count(i) => i,
             Refusal::Held(i) => i,
             Refusal::Unheld(r) => r,
@@ -185,11 +190,12 @@ pub enum Found {
     Nothing,
 }
 
-// What the words before a word tell: the last one's kind, 0 before the first, the last lift's number and old measure, and how
-// many lifts there are.
+// What the words before a word tell: the last one's kind, 0 before the first, the last lift's number, old round and old
+// measure, and how many lifts there are.
 struct Before {
     kind: u32,
     number: u32,
+    from: usize,
     old: u64,
     lifts: usize,
 }
@@ -220,17 +226,46 @@ fn misnumbered(s: Before, word: u32) -> bool
     Sheet::kind(word) == Sheet::LIFT && (payload == 0 || payload <= s.number)
 }
 
+// Whether a word of a kind tells a place.
+fn is_place(kind: u32) -> bool
+    ensures { λ r. ⌜ r ≡ isPlace kind ⌝ }
+{
+    kind == Sheet::OLD || kind == Sheet::NEW
+}
+
+// Whether a measure is too large in a word of a kind.
+fn too_large(kind: u32, measure: u64) -> bool
+    ensures { λ r. ⌜ r ≡ tooLargeOf kind measure ⌝ }
+{
+    measure > Sheet::LARGEST_SUM && (kind != Sheet::NEW || measure != Sheet::NOT_COUNTED)
+}
+
+// Whether a round and a measure are no place that a word of a kind may tell.
+fn beyond(kind: u32, round: usize, measure: u64) -> bool
+    ensures { λ r. ⌜ r ≡ beyondOf kind round measure ⌝ }
+{
+    if round > Sheet::MOST_ROUNDS {
+        return true;
+    }
+    if too_large(kind, measure) {
+        return true;
+    }
+    round == 0 && measure != 0
+}
+
 // Whether refusal 4 applies to a word.
 fn misplaced(word: u32) -> bool
     ensures { λ r. ⌜ r ≡ misplacedOf word ⌝ }
 {
     let kind = Sheet::kind(word);
-    let round = Sheet::round(word);
-    let measure = Sheet::measure(word);
-    (kind == Sheet::OLD || kind == Sheet::NEW)
-        && (round > Sheet::MOST_ROUNDS
-            || measure > Sheet::LARGEST_SUM
-            || round == 0 && measure != 0)
+    is_place(kind) && beyond(kind, Sheet::round(word), Sheet::measure(word))
+}
+
+// Whether refusal 16 applies to a word.
+fn uncounted_newcomer(s: Before, word: u32) -> bool
+    ensures { λ r. ⌜ r ≡ uncountedNewcomerOf s word ⌝ }
+{
+    Sheet::kind(word) == Sheet::NEW && (s.from == 0 && Sheet::measure(word) == Sheet::NOT_COUNTED)
 }
 
 // Whether refusal 5 applies to a word.
@@ -261,6 +296,9 @@ fn judge(s: Before, word: u32, i: usize) -> Judged
     if misplaced(word) {
         return Judged::Faulty(Refusal::Place(i));
     }
+    if uncounted_newcomer(s, word) {
+        return Judged::Faulty(Refusal::Uncounted(i));
+    }
     if miscounted(s, word) {
         return Judged::Faulty(Refusal::Count(i));
     }
@@ -280,6 +318,7 @@ fn next(s: Before, word: u32) -> Before
         return Before {
             kind,
             number: Sheet::payload(word),
+            from: s.from,
             old: s.old,
             lifts: s.lifts + 1,
         };
@@ -288,6 +327,7 @@ fn next(s: Before, word: u32) -> Before
         return Before {
             kind,
             number: s.number,
+            from: Sheet::round(word),
             old: Sheet::measure(word),
             lifts: s.lifts,
         };
@@ -295,6 +335,7 @@ fn next(s: Before, word: u32) -> Before
     Before {
         kind,
         number: s.number,
+        from: s.from,
         old: s.old,
         lifts: s.lifts,
     }
@@ -308,6 +349,7 @@ fn read_words(sheet: &[u32]) -> Judged
     let mut s = Before {
         kind: 0,
         number: 0,
+        from: 0,
         old: 0,
         lifts: 0,
     };
@@ -330,7 +372,7 @@ fn read_words(sheet: &[u32]) -> Judged
     Judged::Faulty(Refusal::Sequence(i))
 }
 
-// The answer to words alone, their length included: one of the refusals 1 to 6, or sound.
+// The answer to words alone, their length included: one of the refusals 1 to 6 and 16, or sound.
 pub fn read(sheet: &[u32]) -> Judged
     ensures { λ r. ⌜ toldOfWords r ≡ ofWords (now (sheet .entry)) ⌝ }
 {
@@ -354,14 +396,36 @@ pub fn marks(sheet: &[u32], i: usize) -> usize
     0
 }
 
-// The word of the lift at position i that tells one of its places.
-fn place(sheet: &[u32], i: usize, side: Side) -> u32
+// The old or the new round of the lift at position i.
+fn round_at(sheet: &[u32], i: usize, side: Side) -> usize
     requires { ⌜ i + 3 < length (now sheet) ⌝ }
-    ensures { λ r. ⌜ placeOf r ≡ placeAt side (liftOf (drop i (now (sheet .entry)))) ⌝ }
+    ensures { λ r. ⌜ r ≡ placeAt side (liftOf (drop i (now (sheet .entry)))) .round ⌝ }
 {
     match side {
-        Side::Old => sheet[i + 1],
-        Side::New => sheet[i + 2],
+        Side::Old => Sheet::round(sheet[i + 1]),
+        Side::New => Sheet::round(sheet[i + 2]),
+    }
+}
+
+// The new measure that counts, from both as they are written.
+fn filled_in(old: u64, new: u64) -> u64
+    ensures { λ r. ⌜ r ≡ filledInOf old new ⌝ }
+{
+    if new == Sheet::NOT_COUNTED {
+        return old;
+    }
+    new
+}
+
+// The old measure of the lift at position i, or the new one that counts.
+fn measure_at(sheet: &[u32], i: usize, side: Side) -> u64
+    requires { ⌜ i + 3 < length (now sheet) ⌝ }
+    ensures { λ r. ⌜ r ≡ placeAt side (liftOf (drop i (now (sheet .entry)))) .measure ⌝ }
+{
+    let old = Sheet::measure(sheet[i + 1]);
+    match side {
+        Side::Old => old,
+        Side::New => filled_in(old, Sheet::measure(sheet[i + 2])),
     }
 }
 
@@ -372,8 +436,8 @@ pub fn value(sheet: &[u32], i: usize, field: Field) -> u64
 {
     match field {
         Field::Number => Sheet::payload(sheet[i]) as u64,
-        Field::Round(side) => Sheet::round(place(sheet, i, side)) as u64,
-        Field::Measure(side) => Sheet::measure(place(sheet, i, side)),
+        Field::Round(side) => round_at(sheet, i, side) as u64,
+        Field::Measure(side) => measure_at(sheet, i, side),
         Field::Held => marks(sheet, i) as u64,
         Field::Unit => 1,
     }

@@ -1,6 +1,6 @@
 -- `sheet::value` meets its contract: by the cases of the field. Assumes nothing.
-use borrow.Author.Needs.{needs}
 use Rattle.sheet.proofs.Lifts.{number-field, round-field, measure-field, held-field, unit-field}
+use borrow.Author.Needs.{needs}
 use Rattle.sheet.proofs.value.Statement.{statement}
 use Rattle.sheet.proofs.value.Tie as tie
 
@@ -22,20 +22,14 @@ cast-result c = search needs
 enum-known-field : tie.Need-enum-known-field
 enum-known-field c = search needs
 
-place-requires : tie.Need-place-requires
-place-requires c κs = search needs
-
-round-requires : tie.Need-round-requires
-round-requires c κs = search needs
+round-at-requires : tie.Need-round-at-requires
+round-at-requires c κs = search needs
 
 enum-known-field-2 : tie.Need-enum-known-field-2
 enum-known-field-2 c = search needs
 
-place-requires-2 : tie.Need-place-requires-2
-place-requires-2 c κs = search needs
-
-measure-requires : tie.Need-measure-requires
-measure-requires c κs = search needs
+measure-at-requires : tie.Need-measure-at-requires
+measure-at-requires c κs = search needs
 
 enum-told-2 : tie.Need-enum-told-2
 enum-told-2 c = search needs
@@ -71,11 +65,9 @@ value-spec =
     payload-requires
     cast-result
     enum-known-field
-    place-requires
-    round-requires
+    round-at-requires
     enum-known-field-2
-    place-requires-2
-    measure-requires
+    measure-at-requires
     enum-told-2
     marks-requires
     enum-told-3
