@@ -7,13 +7,18 @@ use lib.ListN.{getD, drop}
 use lib.Seq.{getD-drop}
 use borrow.Author.Tests.{eq-eqb, ne-eqb}
 use Rattle.laws.specs.Sum.{indicator}
-use Rattle.sheet.specs.Sheet.{kind, payload, heldKind, placeOf, liftOf}
+use Rattle.sheet.specs.Sheet.{kind, payload, heldKind, Place, placeOf, liftOf}
 use Rattle.sheet.specs.Rounds.{filledIn, placeAt}
 use Rattle.sheet.specs.Tables.{fieldOf}
 use Rattle.sheet.specs.declared.Side.{Side}
 use Rattle.sheet.specs.declared.Side.the-variants.{Old, New}
 use Rattle.sheet.specs.declared.Field.{Field}
 use Rattle.sheet.specs.declared.Field.the-variants.{Number, Round, Measure, Held, Unit}
+
+-- the round or the measure of its old place
+pub old-part : (part : Place → ℕ) (ws : List ℕ) (i : ℕ) {side : Side} {x : ℕ} → side ≡ Old → x ≡ part (placeOf (getD ws (i + 1) 0))
+    → x ≡ part (placeAt side (liftOf (drop i ws)))
+old-part part ws i e h = rw (e, getD-drop i ws 1 0) h
 
 module _ (ws : List ℕ) (i : ℕ) where
   pub marked : {k : ℕ} → k ≡ kind (getD ws (i + 3) 0) → k ≡ heldKind → 1 ≡ indicator (liftOf (drop i ws) .held)
@@ -22,14 +27,8 @@ module _ (ws : List ℕ) (i : ℕ) where
   pub unmarked : {k : ℕ} → k ≡ kind (getD ws (i + 3) 0) → (k ≡ heldKind → ⊥) → 0 ≡ indicator (liftOf (drop i ws) .held)
   unmarked e h = rw (getD-drop i ws 3 0, ← e, ne-eqb _ _ h)
 
-  pub old-round : {side : Side} {x : ℕ} → side ≡ Old → x ≡ placeOf (getD ws (i + 1) 0) .round → x ≡ placeAt side (liftOf (drop i ws)) .round
-  old-round e h = rw (e, getD-drop i ws 1 0) h
-
   pub new-round : {side : Side} {x : ℕ} → side ≡ New → x ≡ placeOf (getD ws (i + 2) 0) .round → x ≡ placeAt side (liftOf (drop i ws)) .round
   new-round e h = rw (e, getD-drop i ws 2 0) h
-
-  pub old-measure : {side : Side} {x : ℕ} → side ≡ Old → x ≡ placeOf (getD ws (i + 1) 0) .measure → x ≡ placeAt side (liftOf (drop i ws)) .measure
-  old-measure e h = rw (e, getD-drop i ws 1 0) h
 
   pub new-measure : {side : Side} {x m b : ℕ} → side ≡ New → x ≡ filledIn m b → m ≡ placeOf (getD ws (i + 1) 0) .measure
       → b ≡ placeOf (getD ws (i + 2) 0) .measure → x ≡ placeAt side (liftOf (drop i ws)) .measure
@@ -38,14 +37,5 @@ module _ (ws : List ℕ) (i : ℕ) where
   pub number-field : {f : Field} {x : ℕ} → f ≡ Number → x ≡ payload (getD ws i 0) → x ≡ fieldOf f (liftOf (drop i ws))
   number-field e h = rw (e, getD-drop i ws 0 0, add-zero) h
 
-  pub round-field : {side : Side} {f : Field} {x : ℕ} → f ≡ Round side → x ≡ placeAt side (liftOf (drop i ws)) .round → x ≡ fieldOf f (liftOf (drop i ws))
-  round-field e h = rw e h
-
-  pub measure-field : {side : Side} {f : Field} {x : ℕ} → f ≡ Measure side → x ≡ placeAt side (liftOf (drop i ws)) .measure → x ≡ fieldOf f (liftOf (drop i ws))
-  measure-field e h = rw e h
-
-  pub held-field : {f : Field} {x : ℕ} → f ≡ Held → x ≡ indicator (liftOf (drop i ws) .held) → x ≡ fieldOf f (liftOf (drop i ws))
-  held-field e h = rw e h
-
-  pub unit-field : {f : Field} → f ≡ Unit → 1 ≡ fieldOf f (liftOf (drop i ws))
-  unit-field e = rw e
+  pub same-field : {f g : Field} {x : ℕ} → f ≡ g → x ≡ fieldOf g (liftOf (drop i ws)) → x ≡ fieldOf f (liftOf (drop i ws))
+  same-field e h = rw e h

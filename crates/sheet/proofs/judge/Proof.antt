@@ -1,14 +1,14 @@
 -- `sheet::judge` meets its contract: each test that fails leaves the refusals from the next on, and the first that holds is the word's. Assumes nothing.
+use borrow.Author.Needs.{needs}
 use Prim.Native.Nat.{ℕ}
 use mathlib.Core.Path.{_≡_}
 use mathlib.Core.Bool.{cond}
 use Rattle.sheet.specs.Reading.{misnumbered, misplaced, uncountedNewcomer, miscounted, mismarked, fault}
 use Rattle.sheet.specs.declared.Before.{Before}
-use borrow.Author.Needs.{needs}
 use Rattle.sheet.proofs.judge.Statement.{statement}
 use Rattle.sheet.proofs.judge.Tie as tie
 
--- the refusals of a word from the sixth on, the fifth, the sixteenth, the fourth, the third
+-- the refusals of a word from 6 on, from 5, from 16, from 4, from 3
 abbrev from6 : Before → ℕ → ℕ
 from6 s w = cond (mismarked s w) 6 0
 

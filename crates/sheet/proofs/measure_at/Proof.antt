@@ -1,6 +1,6 @@
 -- `sheet::measure_at` meets its contract: the words behind the lift's number tell its measures. Assumes nothing.
 use borrow.Author.Needs.{needs}
-use Rattle.sheet.proofs.Lifts.{old-measure, new-measure}
+use Rattle.sheet.proofs.Lifts.{old-part, new-measure}
 use Rattle.sheet.proofs.measure_at.Statement.{statement}
 use Rattle.sheet.proofs.measure_at.Tie as tie
 
@@ -38,7 +38,7 @@ filled-in-requires : tie.Need-filled-in-requires
 filled-in-requires c κs = search needs
 
 returns : tie.Need-returns
-returns c = search old-measure
+returns c = search (old-part (λ p. p .measure))
 
 returns-2 : tie.Need-returns-2
 returns-2 c = search new-measure

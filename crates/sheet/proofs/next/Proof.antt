@@ -1,6 +1,6 @@
 -- `sheet::next` meets its contract: by the kind of the word, which decides each field. Assumes nothing.
-use borrow.Author.Tests.{ne-eqb}
 use borrow.Author.Needs.{needs}
+use borrow.Author.Tests.{ne-eqb}
 use Rattle.sheet.proofs.next.Statement.{statement}
 use Rattle.sheet.proofs.next.Tie as tie
 

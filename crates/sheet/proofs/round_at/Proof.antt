@@ -1,6 +1,6 @@
 -- `sheet::round_at` meets its contract: the words behind the lift's number tell its rounds. Assumes nothing.
 use borrow.Author.Needs.{needs}
-use Rattle.sheet.proofs.Lifts.{old-round, new-round}
+use Rattle.sheet.proofs.Lifts.{old-part, new-round}
 use Rattle.sheet.proofs.round_at.Statement.{statement}
 use Rattle.sheet.proofs.round_at.Tie as tie
 
@@ -35,7 +35,7 @@ round-requires-2 : tie.Need-round-requires-2
 round-requires-2 c κs = search needs
 
 returns : tie.Need-returns
-returns c = search old-round
+returns c = search (old-part (λ p. p .round))
 
 returns-2 : tie.Need-returns-2
 returns-2 c = search new-round

@@ -1,6 +1,6 @@
 -- `sheet::value` meets its contract: by the cases of the field. Assumes nothing.
-use Rattle.sheet.proofs.Lifts.{number-field, round-field, measure-field, held-field, unit-field}
 use borrow.Author.Needs.{needs}
+use Rattle.sheet.proofs.Lifts.{number-field, same-field}
 use Rattle.sheet.proofs.value.Statement.{statement}
 use Rattle.sheet.proofs.value.Tie as tie
 
@@ -44,16 +44,16 @@ returns : tie.Need-returns
 returns c = search number-field
 
 returns-2 : tie.Need-returns-2
-returns-2 c = search round-field
+returns-2 c = search same-field
 
 returns-3 : tie.Need-returns-3
-returns-3 c = search measure-field
+returns-3 c = search same-field
 
 returns-4 : tie.Need-returns-4
-returns-4 c = search held-field
+returns-4 c = search same-field
 
 returns-5 : tie.Need-returns-5
-returns-5 c = search unit-field
+returns-5 c = search same-field
 
 pub value-spec : {M : Type 1} → statement M
 value-spec =
