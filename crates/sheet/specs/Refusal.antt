@@ -21,7 +21,7 @@ pub data Verdict : Type 0 where
   refused : Numbered → Verdict
   fits : (lifts rounds : ℕ) → Verdict
 
--- ---- the refusals of rounds; 1 to 6 are in Reading.antt
+-- ---- the refusals of rounds; those of words are in Reading.antt
 
 -- "7. An old round from 1 up, named by any lift, without exactly one held lift."
 abbrev pub unheld : List Lift → ℕ → Bool
