@@ -63,7 +63,7 @@ renewed sheet text = sheetOf (map (measured (lines text)) (lifts sheet))
 
 -- ---- the order of the refusals
 
--- 14 and 15 "after 1 to 6 for the sheet lent", and after 16, which is asked "wherever 4 is checked"; "The result is then checked as any sheet."
+-- 14 and 15 "after 1 to 6 for the sheet lent", and so after 16, "wherever 4 is checked"; "The result is then checked as any sheet."
 unfoldable pub answer : List ℕ → List ℕ → Verdict
 answer sheet text = unlessFaulty (ofWords sheet) (unlessFaulty (ofLines (lifts sheet) (lines text)) (verdict (renewed sheet text)))
 

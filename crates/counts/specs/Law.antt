@@ -20,7 +20,7 @@ pub record TakenLine (ns : List ℕ) (xs : List (List ℕ)) (x : List ℕ) : Typ
   pub says : entry x ≡ counted lift count
   pub there : among lift ns ≡ true
   pub alone : (l : Lift) → l .number ≡ lift → measured xs l ≡ remeasured l (hundreds count)
-  -- no count is "not counted", so the lift counts with it, and with its old measure no longer if that stood for it
+  -- the lift then counts with it, also if it was not counted before: what a line says is never "not counted"
   pub counts : (l : Lift) → placeAt New (remeasured l (hundreds count)) .measure ≡ hundreds count
 
 -- a text that is taken: the sheet then fits, reading it gives the lifts with their counts, and each line is one of the counts

@@ -116,9 +116,9 @@ withdrawn = sheetOf (lift 1 1 1 0 0 true ∷ lift 2 2 1 0 0 true ∷ [])
 abbrev two : ℕ → ℕ → List ℕ
 two a b = sheetOf (lift 1 1 1 1 a true ∷ lift 2 1 1 1 b false ∷ [])
 
--- a lift that was not counted, of old measure 1,048,575, and one of a new measure beside it
-abbrev filled : ℕ → List ℕ
-filled b = sheetOf (lift 1 1 1048575 1 2097151 true ∷ lift 2 2 1 1 b true ∷ [])
+-- a lift of old measure 1,048,575 that was not counted, and one of new measure b beside it
+abbrev beside : ℕ → List ℕ
+beside b = sheetOf (lift 1 1 1048575 1 2097151 true ∷ lift 2 2 1 1 b true ∷ [])
 
 -- an old round without a held lift, and a new round with three donors
 abbrev unheld : List ℕ
@@ -155,6 +155,6 @@ resultCases =
     ∷ taken (two 0 0) "2,1" 1 (two 0 1)
     ∷ refused three "2,1" 10 6
     -- its sums are of the measures filled in
-    ∷ taken (filled 2097151) "2,100" 1 (filled 1)
-    ∷ refused (filled 2097151) "2,101" 8 1
+    ∷ taken (beside 2097151) "2,100" 1 (beside 1)
+    ∷ refused (beside 2097151) "2,101" 8 1
     ∷ []

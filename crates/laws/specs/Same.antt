@@ -1,11 +1,16 @@
--- Lists of numbers, compared by a test that computes: for the tables of cases.
-use Prim.Native.Nat.{ℕ}
+-- Lists of numbers, and fractions, compared by tests that compute: for the tables of cases.
+use Prim.Native.Nat.{ℕ, _*_}
 use mathlib.Core.Bool.{Bool, true, false, _&&_}
 use mathlib.Core.List.{List, [], _∷_}
-use lib.Dec.{eqb}
+use lib.Dec.{eqb, ltb}
+use Rattle.laws.specs.Fraction.{Fraction}
 
 abbrev pub same : List ℕ → List ℕ → Bool
 same [] [] = true
 same [] (y ∷ ys) = false
 same (x ∷ xs) [] = false
 same (x ∷ xs) (y ∷ ys) = eqb x y && same xs ys
+
+-- `_≈_` as a test
+abbrev pub sameFraction : Fraction → Fraction → Bool
+sameFraction q r = eqb (q .num * r .den) (r .num * q .den) && (ltb 0 (q .den) && ltb 0 (r .den))

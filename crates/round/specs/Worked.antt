@@ -1,11 +1,12 @@
 -- The document's small rounds worked through, M1 to M11, as one table, and its figures; and the exact shares and keeping of small rounds: to
 -- be computed.
-use Prim.Native.Nat.{ℕ, _*_, _-_, _^_}
+use Prim.Native.Nat.{ℕ, _-_, _^_}
 use mathlib.Core.Bool.{Bool, true, false, _&&_}
 use mathlib.Core.List.{List, [], _∷_, map}
-use lib.Dec.{ltb, eqb}
+use lib.Dec.{eqb}
 use lib.ListN.{getD}
-use Rattle.laws.specs.Same.{same}
+use Rattle.laws.specs.Fraction.{_//_}
+use Rattle.laws.specs.Same.{same, sameFraction}
 use Rattle.draw.specs.Draw.{largest, drawAt}
 use Rattle.draw.specs.Worked.{sameDrawn}
 use Rattle.draw.specs.declared.Drawn.{Drawn}
@@ -100,9 +101,9 @@ cases =
     ∷ chosen (One 6) bothGrow (Single 0) (30 ∷ 24 ∷ []) (At 2 2 2)
     ∷ []
 
--- whether the lift at place j has exactly b over S, multiplied out
+-- whether the lift at place j has exactly b over S
 abbrev pub rightShare : Donors → List Lift → ℕ → Bool
-rightShare ds ls j = eqb (share ds ls j .num * S ls) (liftAt ls j .new * share ds ls j .den) && ltb 0 (share ds ls j .den)
+rightShare ds ls j = sameFraction (share ds ls j) (liftAt ls j .new // S ls)
 
 -- old 1, 2, new 2, 1, of one donor: the first lift grows, the second shrinks
 abbrev pub exchanged : List Lift
@@ -125,5 +126,4 @@ rule i j = getD (getD ((3 ∷ 0 ∷ []) ∷ (3 ∷ 3 ∷ []) ∷ []) i []) j 0
 abbrev pub rightKeeping : Bool
 rightKeeping =
     eqb (tickets 2 rule) 9
-    && (eqb (keptTickets 2 rule) 6
-    && (eqb (kept (One 3) exchanged .num * 9) (6 * kept (One 3) exchanged .den) && ltb 0 (kept (One 3) exchanged .den)))
+    && (eqb (keptTickets 2 rule) 6 && sameFraction (kept (One 3) exchanged) (6 // 9))

@@ -1,13 +1,13 @@
 -- Small sheets with what is replied and written, as tables to be computed: the document's small rounds worked through, M1 to M11, and the
 -- refusals because of what was lent; lifts that were not counted; all with their numbers and words as literals; and the exact shares and
 -- keeping of small sheets.
-use Prim.Native.Nat.{ℕ, _*_, _-_, _^_}
+use Prim.Native.Nat.{ℕ, _-_, _^_}
 use mathlib.Core.Bool.{Bool, true, false, not, _&&_}
 use mathlib.Core.List.{List, [], _∷_}
-use lib.Dec.{eqb, ltb}
+use lib.Dec.{eqb}
 use lib.ListN.{length}
-use Rattle.laws.specs.Same.{same}
-use Rattle.laws.specs.Fraction.{Fraction}
+use Rattle.laws.specs.Fraction.{_//_}
+use Rattle.laws.specs.Same.{same, sameFraction}
 use Rattle.sheet.specs.Sheet.{Lift, sheetOf}
 use Rattle.sheet.specs.Reply.{Reply, numbers}
 use Rattle.sheet.specs.Worked.{lift, example}
@@ -131,16 +131,14 @@ exchanged = lift 1 1 1 1 2 true ∷ lift 2 1 2 1 1 false ∷ []
 abbrev silent : List Lift
 silent = lift 1 1 1 1 4 true ∷ lift 2 1 2 1 2097151 false ∷ []
 
--- whether a fraction is n over d, multiplied out
-abbrev pub isRatio : Fraction → ℕ → ℕ → Bool
-isRatio x n d = eqb (x .num * d) (n * x .den) && ltb 0 (x .den)
-
--- every lift of both new rounds of the first, and of the new round of the last, has exactly b over S
+-- each lift of each new round has exactly b over S
 abbrev pub rightShares : Bool
 rightShares =
-    isRatio (share small 1 0) 2 3
-    && (isRatio (share small 1 1) 1 3 && (isRatio (share small 2 0) 1 1 && (isRatio (share silent 1 0) 4 6 && isRatio (share silent 1 1) 2 6)))
+    sameFraction (share small 1 0) (2 // 3)
+    && (sameFraction (share small 1 1) (1 // 3)
+    && (sameFraction (share small 2 0) (1 // 1)
+    && (sameFraction (share silent 1 0) (4 // 6) && sameFraction (share silent 1 1) (2 // 6))))
 
 -- "what the ways weigh whose lift is held in their own marking"
 abbrev pub rightKeeping : Bool
-rightKeeping = isRatio (kept exchanged 1) 6 9 && isRatio (kept silent 1) 12 18
+rightKeeping = sameFraction (kept exchanged 1) (6 // 9) && sameFraction (kept silent 1) (12 // 18)

@@ -52,12 +52,12 @@ misnumbered s w = eqb (kind w) liftKind && (eqb (payload w) 0 || leb (payload w)
 abbrev pub isPlace : ℕ → Bool
 isPlace k = eqb k oldKind || eqb k newKind
 
--- "measure above 1,048,576", but "not counted" in a new place, of a word of kind k
+-- "measure above 1,048,576" in a word of kind k, but for "not counted" in a new place
 abbrev pub tooLarge : (k measure : ℕ) → Bool
 tooLarge k m = ltb largestSum m && not (eqb k newKind && eqb m notCounted)
 
--- "Round above 100, measure above 1,048,576, or round 0 with a measure other than 0", of a word of kind k; so "Refusal 4 no longer meets
--- that value in a new place with a real round", from 1 to 100
+-- "Round above 100, measure above 1,048,576, or round 0 with a measure other than 0" in a word of kind k; so "Refusal 4 no longer meets that
+-- value in a new place with a real round", from 1 to 100
 abbrev pub beyond : (k round measure : ℕ) → Bool
 beyond k r m = ltb mostRounds r || tooLarge k m || eqb r 0 && not (eqb m 0)
 

@@ -52,7 +52,7 @@ heldKind = 4
 abbrev pub endKind : ℕ
 endKind = 15
 
--- an old or a new place, as it is written
+-- an old or a new place
 pub record Place : Type 0 where
   pub round : ℕ
   pub measure : ℕ

@@ -41,9 +41,9 @@ example =
 abbrev single : ℕ → ℕ → ℕ → ℕ → List ℕ
 single t m r b = sheetOf (lift 1 t m r b true ∷ [])
 
--- one held lift whose places are told by these words
-abbrev told : ℕ → ℕ → List ℕ
-told old new = 0x1000000B ∷ old ∷ new ∷ 0x40000000 ∷ 0xF0000001 ∷ []
+-- one held lift with these words for its places
+abbrev withPlaces : ℕ → ℕ → List ℕ
+withPlaces old new = 0x1000000B ∷ old ∷ new ∷ 0x40000000 ∷ 0xF0000001 ∷ []
 
 -- two lifts of old round 1 that make up its sum, and that of new round 1
 abbrev sums : ℕ → ℕ → List ℕ
@@ -85,18 +85,18 @@ cases =
     ∷ case (single 3 1 0 0) (fits 1 0)
     ∷ case (single 3 1 0 1) (refused (numbered 4 2))
     -- "the lower 21 bits of a new place, all ones, mean 'not counted'": in rounds 1 and 100; one less is a measure
-    ∷ case (told 0x20200001 0x303FFFFF) (fits 1 1)
-    ∷ case (told 0x20200001 0x3C9FFFFF) (fits 1 1)
-    ∷ case (told 0x20200001 0x303FFFFE) (refused (numbered 4 2))
+    ∷ case (withPlaces 0x20200001 0x303FFFFF) (fits 1 1)
+    ∷ case (withPlaces 0x20200001 0x3C9FFFFF) (fits 1 1)
+    ∷ case (withPlaces 0x20200001 0x303FFFFE) (refused (numbered 4 2))
     -- "Refusal 4 no longer meets that value in a new place with a real round": in round 0, round 101 and an old place it does
-    ∷ case (told 0x20200001 0x301FFFFF) (refused (numbered 4 2))
-    ∷ case (told 0x20200001 0x3CBFFFFF) (refused (numbered 4 2))
-    ∷ case (told 0x203FFFFF 0x30200001) (refused (numbered 4 1))
+    ∷ case (withPlaces 0x20200001 0x301FFFFF) (refused (numbered 4 2))
+    ∷ case (withPlaces 0x20200001 0x3CBFFFFF) (refused (numbered 4 2))
+    ∷ case (withPlaces 0x203FFFFF 0x30200001) (refused (numbered 4 1))
     -- "16 when a newcomer is not counted; place the word, wherever 4 is checked, after it"
-    ∷ case (told 0x20000000 0x303FFFFF) (refused (numbered 16 2))
-    ∷ case (told 0x20000000 0x3C9FFFFF) (refused (numbered 16 2))
-    ∷ case (told 0x20000000 0x301FFFFF) (refused (numbered 4 2))
-    ∷ case (told 0x20000000 0x3CBFFFFF) (refused (numbered 4 2))
+    ∷ case (withPlaces 0x20000000 0x303FFFFF) (refused (numbered 16 2))
+    ∷ case (withPlaces 0x20000000 0x3C9FFFFF) (refused (numbered 16 2))
+    ∷ case (withPlaces 0x20000000 0x301FFFFF) (refused (numbered 4 2))
+    ∷ case (withPlaces 0x20000000 0x3CBFFFFF) (refused (numbered 4 2))
     -- the first faulty word decides here too; 2 comes first; each lift goes by its own old round
     ∷ case (0x1000000B ∷ 0x20000000 ∷ 0x303FFFFF ∷ 0 ∷ []) (refused (numbered 16 2))
     ∷ case (0x1000000B ∷ 0x303FFFFF ∷ []) (refused (numbered 2 1))
