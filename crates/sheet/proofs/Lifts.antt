@@ -13,7 +13,7 @@ use Rattle.sheet.specs.Tables.{fieldOf}
 use Rattle.sheet.specs.declared.Side.{Side}
 use Rattle.sheet.specs.declared.Side.the-variants.{Old, New}
 use Rattle.sheet.specs.declared.Field.{Field}
-use Rattle.sheet.specs.declared.Field.the-variants.{Number, Round, Measure, Held, Unit}
+use Rattle.sheet.specs.declared.Field.the-variants.{Number}
 
 -- the round or the measure of its old place
 pub old-part : (part : Place → ℕ) (ws : List ℕ) (i : ℕ) {side : Side} {x : ℕ} → side ≡ Old → x ≡ part (placeOf (getD ws (i + 1) 0))
