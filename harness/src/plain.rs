@@ -17,8 +17,11 @@ const ROUNDS: usize = 128;
 const PAYLOAD: u32 = (1 << 28) - 1;
 const MEASURE: u32 = (1 << 21) - 1;
 
+/// What stands for the measure in a new place of a real round if the lift was not counted: all ones.
+const NOT_COUNTED: u32 = MEASURE;
+
 /// The measure of a lift that has no line.
-const UNCOUNTED: u32 = u32::MAX;
+const NO_LINE: u32 = u32::MAX;
 
 /// The lifts of a sheet: each one's number, the position of its new place, and the measure that its line gives.
 struct Lifts {
@@ -40,6 +43,9 @@ struct Round {
     donors: u128,
 }
 
+/// A round and a measure.
+type Place = (usize, u32);
+
 /// The rounds by their numbers; 0 stands for none.
 type Rounds = [Round; ROUNDS];
 
@@ -49,7 +55,7 @@ pub fn take_counts(sheet: &mut [u32], text: &[u8]) -> Intake {
         len: 0,
         numbers: [0; MOST_READ],
         positions: [0; MOST_READ],
-        measures: [UNCOUNTED; MOST_READ],
+        measures: [NO_LINE; MOST_READ],
     };
     match read(sheet, text, &mut lifts) {
         Ok(lines) => {
@@ -70,7 +76,7 @@ fn read(sheet: &[u32], text: &[u8], lifts: &mut Lifts) -> Result<usize, Refusal>
     Ok(lines)
 }
 
-/// Reads the words of a sheet; refusals 1 to 6.
+/// Reads the words of a sheet; refusals 1 to 6, and 16.
 fn read_sheet(sheet: &[u32], lifts: &mut Lifts, rounds: &mut Rounds) -> Result<(), Refusal> {
     if sheet.is_empty() || sheet.len() > LONGEST_SHEET {
         return Err((1, sheet.len()));
@@ -96,11 +102,11 @@ fn read_sheet(sheet: &[u32], lifts: &mut Lifts, rounds: &mut Rounds) -> Result<(
     }
 }
 
-/// Reads a lift's places and its held word, and gives the position behind them; refusals 2, 4 and 6.
+/// Reads a lift's places and its held word, and gives the position behind them; refusals 2, 4, 6 and 16.
 #[inline]
 fn read_places(sheet: &[u32], next: usize, rounds: &mut Rounds) -> Result<usize, Refusal> {
-    let (old_round, old_measure) = read_place(sheet, next, 2)?;
-    let (new_round, new_measure) = read_place(sheet, next + 1, 3)?;
+    let (old_round, old_measure) = read_old_place(sheet, next)?;
+    let (new_round, new_measure) = read_new_place(sheet, next + 1, (old_round, old_measure))?;
     let held = is_kind(sheet, next + 2, 4);
     if held && (sheet[next + 2] & PAYLOAD != 0 || old_measure == 0) {
         return Err((6, next + 2));
@@ -131,15 +137,35 @@ fn payload(sheet: &[u32], at: usize, kind: u32) -> Result<u32, Refusal> {
     }
 }
 
-/// The round and measure of a place; refusals 2 and 4.
+/// An old place; refusals 2 and 4.
 #[inline]
-fn read_place(sheet: &[u32], at: usize, kind: u32) -> Result<(usize, u32), Refusal> {
-    let payload = payload(sheet, at, kind)?;
-    let (round, measure) = ((payload >> 21) as usize, payload & MEASURE);
-    match round <= MOST_ROUNDS && measure <= LARGEST_SUM && (round > 0 || measure == 0) {
-        true => Ok((round, measure)),
-        false => Err((4, at)),
+fn read_old_place(sheet: &[u32], at: usize) -> Result<Place, Refusal> {
+    let place = place_of(payload(sheet, at, 2)?);
+    has_measure(place).then_some(place).ok_or((4, at))
+}
+
+/// A new place with the measure that counts, given the old place; refusals 2, 4 and 16.
+#[inline]
+fn read_new_place(sheet: &[u32], at: usize, old: Place) -> Result<Place, Refusal> {
+    let place = place_of(payload(sheet, at, 3)?);
+    match place {
+        (1..=MOST_ROUNDS, NOT_COUNTED) if old.0 == 0 => Err((16, at)),
+        (round @ 1..=MOST_ROUNDS, NOT_COUNTED) => Ok((round, old.1)),
+        _ if has_measure(place) => Ok(place),
+        _ => Err((4, at)),
     }
+}
+
+/// The place of a payload.
+#[inline]
+fn place_of(payload: u32) -> Place {
+    ((payload >> 21) as usize, payload & MEASURE)
+}
+
+/// Whether a place is of a round up to the highest and has a measure up to the largest, which is 0 in round 0.
+#[inline]
+fn has_measure((round, measure): Place) -> bool {
+    round <= MOST_ROUNDS && measure <= LARGEST_SUM && (round > 0 || measure == 0)
 }
 
 /// Reads the lines and keeps their measures; refusals 14 and 15.
@@ -151,7 +177,7 @@ fn read_text(text: &[u8], lifts: &mut Lifts) -> Result<usize, Refusal> {
         lines += 1;
         let (number, count, behind) = read_line(rest).ok_or((14, lines))?;
         match numbers.binary_search(&number) {
-            Ok(place) if measures[place] == UNCOUNTED => measures[place] = count.div_ceil(100),
+            Ok(place) if measures[place] == NO_LINE => measures[place] = count.div_ceil(100),
             _ => return Err((15, lines)),
         }
         rest = behind;
@@ -190,13 +216,16 @@ fn read_number(text: &[u8], largest: u32) -> Option<(u32, &[u8])> {
 /// Puts the measures of the lines into the new sums; refusal 4 for a withdrawn lift.
 fn change_sums(sheet: &[u32], lifts: &Lifts, rounds: &mut Rounds) -> Result<(), Refusal> {
     for (position, measure) in lifts.counted() {
-        let place = sheet[position] & PAYLOAD;
-        let round = (place >> 21) as usize;
+        let (round, written) = place_of(sheet[position] & PAYLOAD);
         if round == 0 && measure > 0 {
             return Err((4, position));
         }
+        let before = match written {
+            NOT_COUNTED => sheet[position - 1] & MEASURE,
+            _ => written,
+        };
         let sum = &mut rounds[round].new_sum;
-        *sum = *sum - u64::from(place & MEASURE) + u64::from(measure);
+        *sum = *sum - u64::from(before) + u64::from(measure);
     }
     Ok(())
 }
@@ -216,7 +245,7 @@ impl Lifts {
         let measures = &self.measures[..self.len];
         let lifts = self.positions[..self.len].iter().zip(measures);
         let lifts = lifts.map(|(&position, &measure)| (position.into(), measure));
-        lifts.filter(|&(_, measure)| measure != UNCOUNTED)
+        lifts.filter(|&(_, measure)| measure != NO_LINE)
     }
 }
 

@@ -9,6 +9,9 @@ use harness::sheets::{held, lift, numbered, EXAMPLE, NONE};
 /// The largest sum and measure.
 const LARGEST: u32 = 1_048_576;
 
+/// What means "not counted" in a new place: all ones.
+const NOT_COUNTED: u32 = 2_097_151;
+
 /// The sheet of lifts numbered from 1 up.
 fn sheet(lifts: &[SheetLift]) -> Vec<u32> {
     write_sheet(&numbered(lifts, 1))
@@ -147,10 +150,117 @@ fn rounds_up_to_100_fit() {
 #[test]
 fn measures_up_to_the_largest_fit() {
     assert_eq!(agreed_on(&[held((1, LARGEST), (1, LARGEST))]), fits(1, 1));
-    for measure in [LARGEST + 1, LARGEST + 2, (1 << 21) - 1] {
+    for measure in [LARGEST + 1, LARGEST + 2, 2_097_150] {
         assert_eq!(agreed_on(&[held((1, measure), (1, 1))]), refused(4, 1));
         assert_eq!(agreed_on(&[held((1, 1), (1, measure))]), refused(4, 2));
     }
+}
+
+#[test]
+fn all_ones_fit_in_a_new_place_alone() {
+    for round in [1, 2, 63, 64, 99, 100] {
+        let verdict = |old, new| agreed_on(&[held((round, old), (round, new))]);
+        assert_eq!(verdict(1, 2_097_151), fits(1, 1));
+        assert_eq!(verdict(LARGEST, 2_097_151), fits(1, 1));
+        assert_eq!(verdict(1, 2_097_150), refused(4, 2));
+        assert_eq!(verdict(LARGEST + 1, 2_097_151), refused(4, 1));
+        assert_eq!(verdict(2_097_150, 2_097_151), refused(4, 1));
+        assert_eq!(verdict(2_097_151, 1), refused(4, 1));
+        assert_eq!(verdict(2_097_151, 2_097_151), refused(4, 1));
+    }
+}
+
+#[test]
+fn not_counted_is_in_a_real_round() {
+    for round in 0..=127 {
+        let (known, newcomer) = match round {
+            1..=100 => (fits(1, 1), refused(16, 2)),
+            _ => (refused(4, 2), refused(4, 2)),
+        };
+        assert_eq!(agreed_on(&[held((1, 1), (round, 2_097_151))]), known);
+        assert_eq!(agreed_on(&[lift(NONE, (round, 2_097_151))]), newcomer);
+        let less_1 = (round, 2_097_150);
+        assert_eq!(agreed_on(&[held((1, 1), less_1)]), refused(4, 2));
+        assert_eq!(agreed_on(&[lift(NONE, less_1)]), refused(4, 2));
+        let in_old_place = [lift((round, 2_097_151), (1, 2_097_151))];
+        assert_eq!(agreed_on(&in_old_place), refused(4, 1));
+    }
+}
+
+#[test]
+fn a_newcomer_is_known_by_its_old_round() {
+    let others = [held((1, 1), (1, 1)), lift((1, 1), (1, 1))];
+    let further = |old, new| agreed_on(&[&others[..], &[lift(old, new)]].concat());
+    assert_eq!(further((1, 0), (1, NOT_COUNTED)), fits(3, 1));
+    assert_eq!(further((0, 0), (1, NOT_COUNTED)), refused(16, 9));
+    assert_eq!(further((0, 0), (1, 0)), fits(3, 1));
+    assert_eq!(further((0, 1), (1, NOT_COUNTED)), refused(4, 8));
+    assert_eq!(further((0, 0), (0, NOT_COUNTED)), refused(4, 9));
+}
+
+#[test]
+fn sums_are_of_measures_filled_in() {
+    let beside = |measure| {
+        [
+            held((1, LARGEST - 2), (1, NOT_COUNTED)),
+            lift(NONE, (1, measure)),
+        ]
+    };
+    assert_eq!(agreed_on(&beside(2)), fits(2, 1));
+    assert_eq!(agreed_on(&beside(3)), refused(8, 1));
+    let joined = |measure| {
+        let first = held((1, LARGEST - 2), (3, NOT_COUNTED));
+        [first, held((2, measure), (3, NOT_COUNTED))]
+    };
+    assert_eq!(agreed_on(&joined(2)), fits(2, 1));
+    assert_eq!(agreed_on(&joined(3)), refused(8, 3));
+    let old_sum = |measure| {
+        let first = held((9, LARGEST - 2), (1, NOT_COUNTED));
+        [first, lift((9, measure), (2, NOT_COUNTED))]
+    };
+    assert_eq!(agreed_on(&old_sum(2)), fits(2, 2));
+    assert_eq!(agreed_on(&old_sum(3)), refused(8, 9));
+    let all = (1..=100).map(|round| held((round, LARGEST), (7, NOT_COUNTED)));
+    assert_eq!(agreed_on(&all.collect::<Vec<_>>()), refused(8, 7));
+}
+
+#[test]
+fn a_sum_of_measures_filled_in_is_above_0() {
+    let alone = |old| [held((1, 5), NONE), lift((1, old), (4, NOT_COUNTED))];
+    assert_eq!(agreed_on(&alone(0)), refused(9, 4));
+    assert_eq!(agreed_on(&alone(1)), fits(2, 1));
+    let beside = |new| [&alone(0)[..], &[new]].concat();
+    assert_eq!(
+        agreed_on(&beside(lift((1, 0), (4, NOT_COUNTED)))),
+        refused(9, 4)
+    );
+    assert_eq!(agreed_on(&beside(lift(NONE, (4, 0)))), refused(9, 4));
+    assert_eq!(agreed_on(&beside(lift((1, 1), (4, 0)))), refused(9, 4));
+    assert_eq!(agreed_on(&beside(lift(NONE, (4, 1)))), fits(3, 1));
+    assert_eq!(
+        agreed_on(&beside(lift((1, 1), (4, NOT_COUNTED)))),
+        fits(3, 1)
+    );
+}
+
+#[test]
+fn donors_send_old_measures() {
+    let sent = |old_round| held((old_round, 1), (9, NOT_COUNTED));
+    assert_eq!(agreed_on(&[1, 2].map(sent)), fits(2, 1));
+    assert_eq!(agreed_on(&[1, 2, 3].map(sent)), refused(10, 9));
+    let none = [held((3, 1), NONE), lift((3, 0), (9, NOT_COUNTED))];
+    assert_eq!(agreed_on(&[[1, 2].map(sent), none].concat()), fits(4, 1));
+}
+
+#[test]
+fn longest_sheet_fits_without_a_count() {
+    let mut lifts = longest();
+    lifts
+        .iter_mut()
+        .for_each(|lift| lift.new_measure = NOT_COUNTED);
+    assert_eq!(agreed_on(&lifts), fits(4_096, 100));
+    lifts[4_095] = lift(NONE, (1, NOT_COUNTED));
+    assert_eq!(agreed_on(&lifts), refused(16, 12_387));
 }
 
 #[test]
@@ -179,13 +289,15 @@ fn numbers_rise_from_1() {
 }
 
 /// Faults of single words of the example: position, word and the refusal's number.
-const FAULTS: [(usize, u32, u32); 22] = [
+const FAULTS: [(usize, u32, u32); 27] = [
     (0, 0xF000_0003, 5),
     (0, 0x1000_0000, 3),
     (0, 0x2020_0002, 2),
     (1, 0x2CA0_0001, 4),
+    (1, 0x203F_FFFF, 4),
     (1, 0x3020_0002, 2),
     (2, 0x3030_0001, 4),
+    (2, 0x301F_FFFF, 4),
     (2, 0xF000_0001, 2),
     (3, 0x1000_000B, 3),
     (3, 0x4000_0001, 6),
@@ -193,13 +305,16 @@ const FAULTS: [(usize, u32, u32); 22] = [
     (4, 0x2000_0001, 4),
     (4, 0x4000_0000, 2),
     (5, 0x3000_0001, 4),
+    (5, 0x3CBF_FFFF, 4),
     (5, 0x1000_000D, 2),
     (6, 0x4800_0000, 6),
     (6, 0x0000_0000, 2),
     (7, 0x1000_0001, 3),
     (7, 0x4000_0000, 2),
     (8, 0x2FE0_0000, 4),
-    (9, 0x303F_FFFF, 4),
+    (8, 0x201F_FFFF, 4),
+    (9, 0x303F_FFFE, 4),
+    (9, 0x3FFF_FFFF, 4),
     (10, 0xF000_0002, 5),
     (10, 0xE000_0003, 2),
 ];
@@ -225,6 +340,87 @@ fn first_faulty_word_decides() {
             assert_eq!(agreed(&words), expected);
         }
     }
+}
+
+/// A newcomer that was not counted, at words 4 to 6, between two held lifts.
+const SILENT_NEWCOMER: [u32; 12] = [
+    0x1000_000B,
+    0x2020_0001,
+    0x3020_0001,
+    0x4000_0000,
+    0x1000_000C,
+    0x2000_0000,
+    0x303F_FFFF,
+    0x1000_000D,
+    0x2040_0001,
+    0x3040_0001,
+    0x4000_0000,
+    0xF000_0003,
+];
+
+/// The sheet with the newcomer that was not counted, another word put in.
+fn with_silent_newcomer(position: usize, word: u32) -> Vec<u32> {
+    let mut words = SILENT_NEWCOMER.to_vec();
+    words[position] = word;
+    words
+}
+
+#[test]
+fn a_newcomer_not_counted_is_refused_at_its_word() {
+    assert_eq!(agreed(&SILENT_NEWCOMER), refused(16, 6));
+    for length in 7..12 {
+        assert_eq!(agreed(&SILENT_NEWCOMER[..length]), refused(16, 6));
+    }
+    for (position, word) in [
+        (7, 0x1000_000C),
+        (7, 0x4000_0000),
+        (8, 0x2000_0001),
+        (8, 0x203F_FFFF),
+        (9, 0x301F_FFFF),
+        (9, 0x303F_FFFF),
+        (10, 0x4000_0001),
+        (11, 0xF000_0004),
+        (11, 0x0000_0000),
+    ] {
+        let words = with_silent_newcomer(position, word);
+        assert_eq!(agreed(&words), refused(16, 6), "{word:08X}");
+    }
+    let two = [lift(NONE, (1, NOT_COUNTED)), lift(NONE, (1, NOT_COUNTED))];
+    assert_eq!(agreed_on(&two), refused(16, 2));
+    assert_eq!(agreed_on(&[held(NONE, (1, NOT_COUNTED))]), refused(16, 2));
+}
+
+#[test]
+fn other_faults_come_before_a_newcomer_not_counted() {
+    for (position, word, number) in [
+        (0, 0x1000_0000, 3),
+        (1, 0x203F_FFFF, 4),
+        (2, 0x301F_FFFF, 4),
+        (2, 0x3CBF_FFFF, 4),
+        (3, 0x4000_0001, 6),
+        (4, 0x1000_000B, 3),
+        (5, 0x2000_0001, 4),
+        (5, 0x201F_FFFF, 4),
+        (5, 0x203F_FFFF, 4),
+        (5, 0x3000_0000, 2),
+        (6, 0x301F_FFFF, 4),
+        (6, 0x303F_FFFE, 4),
+        (6, 0x3CBF_FFFF, 4),
+        (6, 0x3FFF_FFFF, 4),
+        (6, 0x203F_FFFF, 2),
+    ] {
+        let words = with_silent_newcomer(position, word);
+        assert_eq!(agreed(&words), refused(number, position), "{word:08X}");
+    }
+    assert_eq!(agreed(&with_silent_newcomer(5, 0x2020_0000)), fits(3, 2));
+    assert_eq!(
+        agreed(&with_silent_newcomer(6, 0x3C9F_FFFF)),
+        refused(16, 6)
+    );
+    let mut long = SILENT_NEWCOMER.to_vec();
+    long.resize(12_390, 0);
+    assert_eq!(agreed(&long), refused(1, 12_390));
+    assert_eq!(agreed(&long[..12_389]), refused(16, 6));
 }
 
 #[test]
@@ -369,6 +565,8 @@ fn each_number_is_tried_over_all_rounds() {
     ];
     for (place, (lifts, verdict)) in cases.iter().enumerate() {
         assert_eq!(agreed_on(lifts), *verdict);
+        let words = sheet(&[&lifts[..], &[lift(NONE, (1, NOT_COUNTED))]].concat());
+        assert_eq!(agreed(&words), refused(16, words.len() - 2));
         for (later, _) in &cases[place + 1..] {
             assert_eq!(agreed_on(&[&later[..], lifts].concat()), *verdict);
         }
@@ -435,7 +633,7 @@ fn newcomers_and_further_lifts_are_no_donors() {
 }
 
 /// Words of which every list is tried: each kind, well and badly filled.
-const TRIED: [u32; 11] = [
+const TRIED: [u32; 12] = [
     0x1000_0001,
     0x1000_0002,
     0x2000_0000,
@@ -443,29 +641,36 @@ const TRIED: [u32; 11] = [
     0x2020_0001,
     0x3000_0000,
     0x3020_0001,
+    0x303F_FFFF,
     0x4000_0000,
     0x4000_0001,
     0xF000_0000,
     0xF000_0001,
 ];
 
-/// Compares all lists that go on from these words with up to so many more, and counts those that fit.
-fn count_fitting(words: &mut Vec<u32>, more: usize) -> usize {
-    let mut fitting = usize::from(number_of(agreed(words)) == 0);
+/// How many sheets each number has refused, from 1 to 16, and at 0 how many fit.
+type Counts = [usize; 17];
+
+/// Compares all lists that go on from these words with up to so many more, and counts them by their numbers.
+fn count_lists(words: &mut Vec<u32>, more: usize, counts: &mut Counts) {
+    counts[number_of(agreed(words))] += 1;
     if more > 0 {
         for word in TRIED {
             words.push(word);
-            fitting += count_fitting(words, more - 1);
+            count_lists(words, more - 1, counts);
             words.pop();
         }
     }
-    fitting
 }
 
 #[test]
 fn all_short_lists_agree() {
-    // The end alone; a newcomer, withdrawn or not; a held lift, withdrawn or not: each by two numbers.
-    assert_eq!(count_fitting(&mut Vec::new(), 5), 1 + 2 * 2 + 2 * 2);
+    let mut counts = [0; 17];
+    count_lists(&mut Vec::new(), 5, &mut counts);
+    // The end alone; a newcomer, withdrawn or counted; a held lift, withdrawn, counted or not: each by two numbers.
+    assert_eq!(counts[0], 1 + 2 * 2 + 2 * 3);
+    // A newcomer not counted, by two numbers, with up to two words behind it.
+    assert_eq!(counts[16], 2 * (1 + 12 + 12 * 12));
 }
 
 /// The document's number, 0 for a sheet that fits.

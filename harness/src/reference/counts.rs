@@ -1,7 +1,7 @@
 //! Counts taken into a sheet from the monitoring centre's text.
 
-use super::sheet::{read_lifts, Refusal};
-use super::{read_sheet, write_sheet, SheetLift};
+use super::sheet::Refusal;
+use super::{read_lifts, read_sheet, write_sheet, SheetLift};
 use std::collections::BTreeMap;
 
 /// The highest lift number of a line.
@@ -22,7 +22,7 @@ pub enum Intake {
     Taken { lines: usize },
 }
 
-/// Takes each line's count as its lift's new measure; a refusal leaves the sheet as it was.
+/// Takes each line's count as its lift's new measure, also where that was not counted; a refusal leaves the sheet as it was.
 pub fn take_counts(sheet: &mut [u32], text: &[u8]) -> Intake {
     match counted_sheet(sheet, text) {
         Ok((counted, lines)) => {
@@ -33,7 +33,7 @@ pub fn take_counts(sheet: &mut [u32], text: &[u8]) -> Intake {
     }
 }
 
-/// The sheet with the counts taken, and how many lines there are; refusals 1 to 6, then 14 and 15, then 1 to 10 of the result.
+/// The sheet with the counts taken, and how many lines there are; refusals 1 to 6 and 16, then 14 and 15, then those of the result.
 fn counted_sheet(sheet: &[u32], text: &[u8]) -> Result<(Vec<u32>, usize), Refusal> {
     let mut lifts = read_lifts(sheet)?;
     let lines = lines_of(text);
@@ -57,13 +57,13 @@ fn without_ending(line: &[u8]) -> &[u8] {
     }
 }
 
-/// Takes the counts line by line; refusals 14 and 15, placed at the line from 1.
+/// Takes the counts line by line, each for a lift that no line named before; refusals 14 and 15, placed at the line from 1.
 fn take_lines(lifts: &mut [SheetLift], lines: &[&[u8]]) -> Result<(), Refusal> {
-    let uncounted = lifts.iter_mut().map(|lift| (lift.number, lift));
-    let mut uncounted: BTreeMap<u32, &mut SheetLift> = uncounted.collect();
+    let unnamed = lifts.iter_mut().map(|lift| (lift.number, lift));
+    let mut unnamed: BTreeMap<u32, &mut SheetLift> = unnamed.collect();
     for (line, place) in lines.iter().zip(1..) {
         let (number, count) = read_line(line).ok_or((14, place))?;
-        let lift = uncounted.remove(&number).ok_or((15, place))?;
+        let lift = unnamed.remove(&number).ok_or((15, place))?;
         lift.new_measure = count.div_ceil(HUNDRED);
     }
     Ok(())

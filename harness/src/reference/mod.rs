@@ -10,5 +10,6 @@ pub use counts::{take_counts, Intake};
 pub use draw::draw;
 pub use panel::{choose_panel, new_rounds, report, NewRound, Reply};
 pub use round::{choose, choose_by, Choice, Lift, Outcome, Round};
-pub use sheet::{check, read_sheet, write_sheet, Sheet, SheetLift, Verdict};
-pub use sheet::{donors, new_sum, old_sum, LARGEST_SUM, LONGEST_SHEET, MOST_ROUNDS};
+pub use sheet::{check, read_lifts, read_sheet, write_sheet, Sheet, SheetLift, Verdict};
+pub use sheet::{donors, new_sum, old_sum};
+pub use sheet::{LARGEST_SUM, LONGEST_SHEET, MOST_ROUNDS, NOT_COUNTED};

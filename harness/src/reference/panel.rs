@@ -41,7 +41,7 @@ pub fn choose_panel(sheet: &[u32], words: &[u64], start: usize, out: &mut [u32])
     }
 }
 
-/// The output's pairs and how many words were read; refusals 1 to 13.
+/// The output's pairs and how many words were read; refusals 1 to 13, and 16.
 fn choose_pairs(
     sheet: &[u32],
     words: &[u64],
@@ -83,7 +83,7 @@ pub fn new_rounds(sheet: &Sheet) -> Vec<NewRound> {
         .collect()
 }
 
-/// The round of these lifts, given the sum of each old round.
+/// The round of these lifts with the new measures that count, given the sum of each old round.
 fn round_of(lifts: &[SheetLift], old_sums: &BTreeMap<u32, u64>) -> Round {
     let donors: Vec<u32> = donors(lifts).into_iter().collect();
     let donor_of = |lift: &SheetLift| match lift.old_measure {
@@ -98,7 +98,7 @@ fn round_of(lifts: &[SheetLift], old_sums: &BTreeMap<u32, u64>) -> Round {
     let measured = |lift: &SheetLift| Lift {
         donor: donor_of(lift),
         old_measure: lift.old_measure.into(),
-        new_measure: lift.new_measure.into(),
+        new_measure: lift.filled_measure().into(),
     };
     Round {
         lifts: lifts.iter().map(measured).collect(),

@@ -14,6 +14,9 @@ pub const MOST_ROUNDS: u32 = 100;
 /// The largest sum of a round's measures, and so the largest measure.
 pub const LARGEST_SUM: u32 = 1_048_576;
 
+/// What stands for the measure in a new place of a real round if the lift was not counted: all ones.
+pub const NOT_COUNTED: u32 = 2_097_151;
+
 // The kinds of words.
 const LIFT: u32 = 1;
 const OLD_PLACE: u32 = 2;
@@ -34,9 +37,25 @@ pub struct SheetLift {
     pub old_measure: u32,
     /// 0 for a withdrawn lift.
     pub new_round: u32,
+    /// As written: `NOT_COUNTED` if its modem was silent.
     pub new_measure: u32,
     /// Whether it carries the recorder.
     pub held: bool,
+}
+
+impl SheetLift {
+    /// Whether its modem was silent, so that it was not counted.
+    pub fn is_silent(&self) -> bool {
+        self.new_measure == NOT_COUNTED
+    }
+
+    /// The new measure that counts: a lift that was not counted has its old one.
+    pub fn filled_measure(&self) -> u32 {
+        match self.is_silent() {
+            true => self.old_measure,
+            false => self.new_measure,
+        }
+    }
 }
 
 /// What a sheet is found to be; the numbers are the document's.
@@ -72,7 +91,7 @@ pub fn check(sheet: &[u32]) -> Verdict {
     }
 }
 
-/// Reads a sheet that fits; refusals 1 to 10.
+/// Reads a sheet that fits; refusals 1 to 10, and 16.
 pub fn read_sheet(sheet: &[u32]) -> Result<Sheet, Refusal> {
     let lifts = read_lifts(sheet)?;
     let sheet = Sheet {
@@ -122,8 +141,8 @@ pub(super) fn place_of(payload: u32) -> (u32, u32) {
     (payload >> MEASURE_BITS, payload & ((1 << MEASURE_BITS) - 1))
 }
 
-/// Reads the lifts; refusals 1 to 6.
-pub(super) fn read_lifts(sheet: &[u32]) -> Result<Vec<SheetLift>, Refusal> {
+/// Reads the lifts; refusals 1 to 6, and 16.
+pub fn read_lifts(sheet: &[u32]) -> Result<Vec<SheetLift>, Refusal> {
     if sheet.is_empty() || sheet.len() > LONGEST_SHEET {
         return Err((1, sheet.len()));
     }
@@ -169,8 +188,8 @@ impl Words<'_> {
     /// Takes the words of a lift.
     fn take_lift(&mut self, number_before: u32) -> Result<SheetLift, Refusal> {
         let number = self.take(LIFT, 3, |number| number > number_before)?;
-        let (old_round, old_measure) = place_of(self.take(OLD_PLACE, 4, place_fits)?);
-        let (new_round, new_measure) = place_of(self.take(NEW_PLACE, 4, place_fits)?);
+        let (old_round, old_measure) = place_of(self.take(OLD_PLACE, 4, old_place_fits)?);
+        let (new_round, new_measure) = place_of(self.take_new_place(old_round)?);
         let held = self.next_is(HELD);
         if held {
             self.take(HELD, 6, |payload| payload == 0 && old_measure > 0)?;
@@ -185,6 +204,16 @@ impl Words<'_> {
         })
     }
 
+    /// Takes the payload of a new place, given the old round; refusals 2 and 4, then 16 for a newcomer that was not counted.
+    fn take_new_place(&mut self, old_round: u32) -> Result<u32, Refusal> {
+        let place = self.next;
+        let payload = self.take(NEW_PLACE, 4, new_place_fits)?;
+        match place_of(payload) {
+            (_, NOT_COUNTED) if old_round == 0 => Err((16, place)),
+            _ => Ok(payload),
+        }
+    }
+
     /// Takes the end word, behind which there is no other.
     fn take_end(&mut self, lifts: usize) -> Result<(), Refusal> {
         self.take(END, 5, |count| {
@@ -197,10 +226,18 @@ impl Words<'_> {
     }
 }
 
-/// Whether a place's payload has none of the faults of refusal 4.
-fn place_fits(payload: u32) -> bool {
+/// Whether an old place's payload has none of the faults of refusal 4.
+fn old_place_fits(payload: u32) -> bool {
     let (round, measure) = place_of(payload);
     round <= MOST_ROUNDS && measure <= LARGEST_SUM && (round > 0 || measure == 0)
+}
+
+/// Whether a new place's payload has none of the faults of refusal 4: in a real round it may be not counted.
+fn new_place_fits(payload: u32) -> bool {
+    match place_of(payload) {
+        (1..=MOST_ROUNDS, NOT_COUNTED) => true,
+        _ => old_place_fits(payload),
+    }
 }
 
 /// Gathers the lifts of each round from 1 up.
@@ -246,9 +283,10 @@ pub fn old_sum(lifts: &[SheetLift]) -> u64 {
     lifts.iter().map(|lift| u64::from(lift.old_measure)).sum()
 }
 
-/// The sum of the new measures.
+/// The sum of the new measures that count.
 pub fn new_sum(lifts: &[SheetLift]) -> u64 {
-    lifts.iter().map(|lift| u64::from(lift.new_measure)).sum()
+    let measures = lifts.iter().map(|lift| u64::from(lift.filled_measure()));
+    measures.sum()
 }
 
 /// The old rounds that send measure with these lifts of a new round.
