@@ -21,6 +21,9 @@ struct Lent<'a> {
 /// A choice for a whole sheet.
 type Chooser = fn(&[u32], &[u64], usize, &mut [u32]) -> Reply;
 
+/// What means "not counted" in a new place: all ones.
+const NOT_COUNTED: u32 = 2_097_151;
+
 /// How many words on either side of the output are not lent.
 const MARGIN: usize = 4;
 
@@ -184,6 +187,95 @@ fn worked_cases_alone() {
     }
 }
 
+#[test]
+fn worked_cases_without_counts() {
+    let mut silenced = 0;
+    for case in worked_cases() {
+        let mut lifts = numbered(&case.lifts, 11);
+        let known = lifts.iter_mut().filter(|lift| lift.old_round > 0);
+        let same = known.filter(|lift| lift.old_measure == lift.new_measure);
+        for lift in same {
+            lift.new_measure = NOT_COUNTED;
+            silenced += 1;
+        }
+        let choices = [(1, 11 + case.place, case.outcome)];
+        check(case.name, &write_sheet(&lifts), &case.words, &choices);
+    }
+    // Lift 13 of M1 to M3 and lift 21 of M6 to M10.
+    assert_eq!(silenced, 3 + 5);
+}
+
+/// Checks the choice of new round 1 for lifts numbered from 1 up.
+fn check_round_1(lifts: &[SheetLift], words: &[u64], (number, outcome): (u32, u32)) {
+    let sheet = write_sheet(&numbered(lifts, 1));
+    let choices = [(1, number, outcome)];
+    check(&format!("{lifts:?}"), &sheet, words, &choices);
+}
+
+#[test]
+fn a_held_lift_without_a_count_stays_if_nothing_else_changed() {
+    for place in 0..3 {
+        let mut lifts = [3, 7, 1, 0].map(|measure| lift((5, measure), (1, measure)));
+        lifts[place].held = true;
+        for silent in 0..1 << 4 {
+            let mut lifts = lifts;
+            for (bit, lift) in lifts.iter_mut().enumerate() {
+                if silent >> bit & 1 == 1 {
+                    lift.new_measure = NOT_COUNTED;
+                }
+            }
+            check_round_1(&lifts, &[], (place as u32 + 1, 1));
+        }
+    }
+}
+
+#[test]
+fn a_lift_without_a_count_weighs_by_its_old_measure() {
+    // Old 3, 7, new 3, 9: old weights 36, 84, new 30, 90, G 6.
+    let shrinking = [held((1, 3), (1, NOT_COUNTED)), lift((1, 7), (1, 9))];
+    check_round_1(&shrinking, &[29], (1, 1));
+    check_round_1(&shrinking, &[30, 5], (2, 2));
+    // Old 3, 7, new 3, 5: old weights 24, 56, new 30, 50.
+    let growing = [held((1, 3), (1, NOT_COUNTED)), lift((1, 7), (1, 5))];
+    check_round_1(&growing, &[], (1, 1));
+    // Old 7, 3, 1, new 1, 3, 0: old weights 28, 12, 4, new 11, 33, 0, G 21.
+    let replacing = [
+        held((1, 7), (1, 1)),
+        lift((1, 3), (1, NOT_COUNTED)),
+        lift((1, 1), (1, 0)),
+    ];
+    check_round_1(&replacing, &[10], (1, 1));
+    check_round_1(&replacing, &[11, 20], (2, 2));
+    // New 0, 3, 4.
+    let fresh = [
+        lift((1, 0), (1, NOT_COUNTED)),
+        lift((1, 3), (1, NOT_COUNTED)),
+        lift(NONE, (1, 4)),
+        held((1, 2), NONE),
+    ];
+    check_round_1(&fresh, &[0], (2, 3));
+    check_round_1(&fresh, &[2], (2, 3));
+    check_round_1(&fresh, &[3], (3, 3));
+    check_round_1(&fresh, &[6], (3, 3));
+}
+
+#[test]
+fn two_rounds_without_counts_are_joined() {
+    // Old 4 of 4 and 6 of 6, new the same: D 48, old weights 240, 240, new 192, 288, G 48.
+    let both = [(1, 4), (2, 6)].map(|old| held(old, (1, NOT_COUNTED)));
+    check_round_1(&both, &[23, 191], (1, 1));
+    check_round_1(&both, &[23, 192, 47], (2, 1));
+    check_round_1(&both, &[24], (2, 1));
+    // Old 4 of 4 and 5 of 6, new the same: D 44, old weights 216, 180, new 176, 220, G 40.
+    let first = [
+        held((1, 4), (1, NOT_COUNTED)),
+        lift((2, 5), (1, NOT_COUNTED)),
+        held((2, 1), NONE),
+    ];
+    check_round_1(&first, &[175], (1, 1));
+    check_round_1(&first, &[176, 39], (2, 2));
+}
+
 /// A case's lifts in another new round and in old rounds higher by so many; round 0 stays.
 fn moved(lifts: &[SheetLift], old_by: u32, new_round: u32) -> Vec<SheetLift> {
     let moved = |lift: &SheetLift| SheetLift {
@@ -279,6 +371,12 @@ fn refusals_come_in_order() {
         out_len: 1,
     };
     assert_eq!(agreed(lent), refused(2, 0));
+    let newcomer = [0x1000_0001, 0x2000_0000, 0x303F_FFFF, 0xF000_0001];
+    lent.sheet = &newcomer;
+    assert_eq!(agreed(lent), refused(16, 2));
+    let withdrawn = [0x1000_0001, 0x2000_0000, 0x301F_FFFF, 0xF000_0001];
+    lent.sheet = &withdrawn;
+    assert_eq!(agreed(lent), refused(4, 2));
     lent.sheet = &EXAMPLE;
     assert_eq!(agreed(lent), refused(11, 2));
     lent.start = 1;
@@ -299,6 +397,13 @@ fn limits_pass() {
     check("largest", &largest, &[u64::from(top), 0], &[(1, 2, 2)]);
     check("largest", &largest, &[u64::from(top) - 1], &[(1, 1, 1)]);
     assert_eq!(agreed_on(&sums(top), &[0, 0], 0), refused(8, 1));
+    // Old top - 1, new the same and a newcomer's 1: old weight top × (top - 1), new (top - 1)², G top - 1.
+    let beside = |new| [held((1, top - 1), (1, NOT_COUNTED)), lift(NONE, (1, new))];
+    let new_weight = u64::from(top - 1).pow(2);
+    check_round_1(&beside(1), &[new_weight - 1], (1, 1));
+    check_round_1(&beside(1), &[new_weight, u64::from(top) - 2], (2, 2));
+    assert_eq!(agreed_on(&beside(2), &[0, 0], 0), refused(8, 1));
+    check_round_1(&[held((1, top), (1, NOT_COUNTED))], &[], (1, 1));
     let in_round = |round| [held((round, 1), (round, 1))];
     let highest = write_sheet(&numbered(&in_round(100), 1));
     check("round 100", &highest, &[], &[(100, 1, 1)]);
@@ -424,6 +529,18 @@ fn longest_sheet_is_refused_short_in_every_round() {
     let short_rounds: BTreeSet<u32> = counts.map(|count| script.check_short(count)).collect();
     assert!(short_rounds.into_iter().eq(1..=100));
     script.check_whole(&mut seeded);
+}
+
+#[test]
+fn longest_sheet_without_counts_keeps_every_recorder() {
+    let mut lifts = longest();
+    for lift in &mut lifts {
+        lift.new_measure = NOT_COUNTED;
+    }
+    let held = lifts.iter().filter(|lift| lift.held);
+    let mut kept: Vec<Choice> = held.map(|lift| (lift.new_round, lift.number, 1)).collect();
+    kept.sort_unstable();
+    check("no counts", &write_sheet(&lifts), &[], &kept);
 }
 
 #[test]
