@@ -10,6 +10,9 @@ use std::collections::BTreeMap;
 /// The largest sum and measure.
 const LARGEST: u32 = 1_048_576;
 
+/// What means "not counted" in a new place: all ones.
+const NOT_COUNTED: u32 = 2_097_151;
+
 /// Takes counts into a sheet.
 type Taker = fn(&mut [u32], &[u8]) -> Intake;
 
@@ -82,9 +85,14 @@ fn example_with(measures: [u32; 3]) -> Vec<u32> {
 
 /// Checks that a text is taken into the example, with these new measures after it.
 fn check_taken(text: &str, lines: usize, measures: [u32; 3]) {
-    let (reply, words) = agreed_sheet(&EXAMPLE, text.as_bytes());
+    check_changed([4, 1, 5], text, lines, measures);
+}
+
+/// Checks that a text is taken into the example with these new measures, and which are there after it.
+fn check_changed(before: [u32; 3], text: &str, lines: usize, after: [u32; 3]) {
+    let (reply, words) = agreed_sheet(&example_with(before), text.as_bytes());
     assert_eq!(reply, taken(lines), "{text:?}");
-    assert_eq!(words, example_with(measures), "{text:?}");
+    assert_eq!(words, example_with(after), "{text:?}");
 }
 
 #[test]
@@ -124,6 +132,8 @@ fn counts_up_to_the_largest_have_the_form() {
     assert_eq!(agreed(&EXAMPLE, &text("104857601")), refused(14, 3));
     assert_eq!(agreed(&EXAMPLE, &text("104857700")), refused(14, 3));
     assert_eq!(agreed(&EXAMPLE, &text("1048576000")), refused(14, 3));
+    // No count is so large that its measure would be all ones.
+    assert_eq!(agreed(&EXAMPLE, &text("209715100")), refused(14, 3));
 }
 
 #[test]
@@ -353,6 +363,10 @@ fn the_sheet_lent_decides_before_the_lines() {
         (example_but(2, 0x3CA0_0001), refused(4, 2)),
         (example_but(5, 0x3030_0001), refused(4, 5)),
         (example_but(9, 0x3000_0001), refused(4, 9)),
+        (example_but(9, 0x301F_FFFF), refused(4, 9)),
+        (example_but(9, 0x3CBF_FFFF), refused(4, 9)),
+        (example_but(9, 0x303F_FFFE), refused(4, 9)),
+        (example_but(8, 0x203F_FFFF), refused(4, 8)),
         (example_but(10, 0xF000_0004), refused(5, 10)),
         (example_but(6, 0x4000_0001), refused(6, 6)),
         (example_but(4, 0x2020_0000), refused(6, 6)),
@@ -464,6 +478,82 @@ fn sums_of_the_result_are_above_0() {
     assert_eq!(agreed_on(&lifts, "1,0\n2,0\n3,0"), refused(9, 6));
 }
 
+#[test]
+fn a_line_counts_a_lift_that_was_not_counted() {
+    let silent = [NOT_COUNTED; 3];
+    check_changed(silent, "", 0, silent);
+    check_changed(silent, "12,700\n", 1, [NOT_COUNTED, 7, NOT_COUNTED]);
+    check_changed(silent, "12,300\n", 1, [NOT_COUNTED, 3, NOT_COUNTED]);
+    check_changed(silent, "12,0\n", 1, [NOT_COUNTED, 0, NOT_COUNTED]);
+    check_changed(silent, "13,100\n11,0\n", 2, [0, NOT_COUNTED, 1]);
+    check_changed(silent, "13,0\n11,0\n12,104857600\n", 3, [0, LARGEST, 0]);
+    check_changed([NOT_COUNTED, 1, 5], "13,900\n", 1, [NOT_COUNTED, 1, 9]);
+    check_changed([4, NOT_COUNTED, 5], "12,1\n13,1\n", 2, [4, 1, 1]);
+}
+
+#[test]
+fn sums_of_the_result_are_of_measures_filled_in() {
+    // Lifts 11, 12, 13 have old measures 2, 3, 5.
+    let silent = example_with([NOT_COUNTED; 3]);
+    assert_eq!(agreed(&silent, "11,104856800"), taken(1));
+    assert_eq!(agreed(&silent, "11,104856801"), refused(8, 1));
+    assert_eq!(agreed(&silent, "13,104857100"), taken(1));
+    assert_eq!(agreed(&silent, "13,104857101"), refused(8, 1));
+    assert_eq!(agreed(&silent, "12,104857600\n11,0\n13,0"), taken(3));
+    assert_eq!(agreed(&silent, "12,104857600\n11,0"), refused(8, 1));
+    assert_eq!(agreed(&silent, "11,0\n12,0\n"), taken(2));
+    assert_eq!(agreed(&silent, "11,0\n12,0\n13,0\n"), refused(9, 1));
+    let without_measure = lift((1, 0), (4, NOT_COUNTED));
+    let lifts = [held((1, 5), NONE), without_measure, lift(NONE, (4, 1))];
+    assert_eq!(agreed_on(&lifts, "3,1"), taken(1));
+    assert_eq!(agreed_on(&lifts, "3,0"), refused(9, 4));
+    assert_eq!(agreed_on(&lifts, "3,0\n2,0"), refused(9, 4));
+    assert_eq!(agreed_on(&lifts, "3,0\n2,1"), taken(2));
+}
+
+#[test]
+fn lines_cure_sums_of_measures_filled_in() {
+    let full = [held((1, LARGEST), (1, NOT_COUNTED)), lift(NONE, (1, 1))];
+    assert_eq!(agreed_on(&full, ""), refused(8, 1));
+    assert_eq!(agreed_on(&full, "2,1"), refused(8, 1));
+    assert_eq!(agreed_on(&full, "2,0"), taken(1));
+    assert_eq!(agreed_on(&full, "1,104857501"), refused(8, 1));
+    assert_eq!(agreed_on(&full, "1,104857500"), taken(1));
+    assert_eq!(agreed_on(&full, "1,0"), taken(1));
+    let empty = [held((1, 5), NONE), lift((1, 0), (4, NOT_COUNTED))];
+    assert_eq!(agreed_on(&empty, ""), refused(9, 4));
+    assert_eq!(agreed_on(&empty, "2,0"), refused(9, 4));
+    assert_eq!(agreed_on(&empty, "2,1"), taken(1));
+}
+
+#[test]
+fn a_newcomer_not_counted_is_refused_before_the_lines() {
+    let lifts = [held((1, 1), (1, 1)), lift(NONE, (1, NOT_COUNTED))];
+    let known = [held((1, 1), (1, 1)), lift((1, 0), (1, NOT_COUNTED))];
+    for (text, known_reply) in [
+        ("", taken(0)),
+        ("2,100\n", taken(1)),
+        ("2,0\n", taken(1)),
+        ("1,100\n", taken(1)),
+        ("1,0\n", refused(9, 1)),
+        ("2,1\n1,1\n", taken(2)),
+        ("2,1\n2,1\n", refused(15, 2)),
+        ("3,1\n", refused(15, 1)),
+        ("2,x\n", refused(14, 1)),
+        ("2,104857601\n", refused(14, 1)),
+        ("\n", refused(14, 1)),
+    ] {
+        assert_eq!(agreed_on(&lifts, text), refused(16, 6), "{text:?}");
+        assert_eq!(agreed_on(&known, text), known_reply, "{text:?}");
+    }
+    for (others, _) in refused_by_rounds() {
+        let words = sheet(&[&others[..], &lifts[1..]].concat());
+        let number = others.len() + 1;
+        let text = format!("{number},100\n");
+        assert_eq!(agreed(&words, &text), refused(16, words.len() - 2));
+    }
+}
+
 /// The lifts of the longest sheet: 4,096 in 100 rounds of one donor each.
 fn longest() -> Vec<SheetLift> {
     let place = |number: u32| (number % 100 + 1, 25_000);
@@ -481,12 +571,17 @@ fn every_lift_of_the_longest_sheet_is_counted() {
     let lent = write_sheet(&lifts);
     assert_eq!(lent.len(), 12_389);
     for lift in &mut lifts {
+        lift.new_measure = NOT_COUNTED;
+    }
+    let silent = write_sheet(&lifts);
+    for lift in &mut lifts {
         lift.new_measure = lift.number;
     }
     let counted = (taken(4_096), write_sheet(&lifts));
     for _ in 0..2 {
         let text = text_of(&lifts);
         assert!(agreed_sheet(&lent, &text) == counted);
+        assert!(agreed_sheet(&silent, &text) == counted);
         for (line, number) in [("4097,1", 15), ("1,1", 15), ("4096,1", 15), ("1", 14)] {
             let more = [&text, line.as_bytes()].concat();
             assert_eq!(agreed_sheet(&lent, &more).0, refused(number, 4_097));

@@ -103,6 +103,28 @@ fn examples_are_printed() {
     assert_eq!(quarter.lines().count(), 85);
 }
 
+/// The text for the example with another word at a position.
+fn agreed_with(position: usize, word: u32, words: &[u64]) -> String {
+    let mut sheet = EXAMPLE;
+    sheet[position] = word;
+    agreed_on(&sheet, words)
+}
+
+#[test]
+fn lifts_not_counted_are_printed() {
+    // Lift 12 held and not counted, new 4, 3, 5: old weight 36, new 30; lift 11 has 24 and 40, so G is 16.
+    let not_counted = |words: &[u64]| agreed_with(5, 0x303F_FFFF, words);
+    assert_eq!(not_counted(&[29]), "1 12 1\nwords 1\n");
+    assert_eq!(not_counted(&[30, 0]), "1 11 2\nwords 2\n");
+    assert_eq!(not_counted(&[]), "refused 13 1\n");
+    assert_eq!(agreed_with(5, 0x303F_FFFE, &[]), "refused 4 5\n");
+    assert_eq!(agreed_with(5, 0x301F_FFFF, &[]), "refused 4 5\n");
+    assert_eq!(agreed_with(5, 0x3CBF_FFFF, &[]), "refused 4 5\n");
+    assert_eq!(agreed_with(4, 0x203F_FFFF, &[]), "refused 4 4\n");
+    let newcomer = [0x1000_0001, 0x2000_0000, 0x303F_FFFF, 0xF000_0001];
+    assert_eq!(agreed_on(&newcomer, &[]), "refused 16 2\n");
+}
+
 #[test]
 fn missing_and_empty_files_are_empty() {
     let (sheet, words) = (sheet_bytes(&EXAMPLE), words_bytes(&[10, 0]));
