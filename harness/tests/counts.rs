@@ -1,8 +1,8 @@
 //! Compares the archive's taking of counts with the reference: the request's numbers, its traps, short texts and seeded texts.
 
-use harness::reference::{write_sheet, Intake, SheetLift};
+use harness::reference::{read_lifts, write_sheet, Intake, SheetLift};
 use harness::seeded::Seeded;
-use harness::sheets::{fitting_lifts, held, lift, numbered, EXAMPLE, NONE};
+use harness::sheets::{filled_in, fitting_lifts, held, lift, numbered, EXAMPLE, NONE};
 use harness::texts::{any_lent, any_text, names_of_sorts, text_of, Case, Lent};
 use harness::{archive, plain, reference};
 use std::collections::BTreeMap;
@@ -627,11 +627,11 @@ fn all_short_texts_agree() {
 #[test]
 fn seeded_texts_agree() {
     let mut seeded = Seeded::new(15);
-    let mut numbers = [0; 16];
-    let mut with_faulty_text = [0; 16];
+    let mut numbers = [0; 17];
+    let mut with_faulty_text = [0; 17];
     let names = names_of_sorts().into_iter();
     let mut sorts: BTreeMap<&str, u32> = names.map(|name| (name, 0)).collect();
-    for _ in 0..200_000 {
+    for _ in 0..300_000 {
         let lent = any_lent(&mut seeded);
         let (reply, _) = agreed_sheet(&lent.sheet, &lent.text);
         let case = Case::new(lent, reply);
@@ -644,11 +644,32 @@ fn seeded_texts_agree() {
         }
     }
     assert!(numbers[0] >= 20_000, "{numbers:?}");
-    let given = [&numbers[1..=10], &numbers[14..=15]].concat();
+    let given = [&numbers[1..=10], &numbers[14..=16]].concat();
     assert!(given.iter().all(|&texts| texts >= 500), "{numbers:?}");
-    let unread = &with_faulty_text[1..=6];
+    let unread = [&with_faulty_text[1..=6], &with_faulty_text[16..]].concat();
     assert!(unread.iter().all(|&texts| texts >= 500), "{unread:?}");
     assert!(sorts.values().all(|&texts| texts >= 500), "{sorts:#?}");
+}
+
+#[test]
+fn old_measures_in_place_of_counts_change_no_reply() {
+    let mut seeded = Seeded::new(26);
+    let (mut taken, mut refused) = (0, 0);
+    while taken + refused < 50_000 {
+        let Lent { sheet, text, .. } = any_lent(&mut seeded);
+        let filled_sheet = filled_in(&sheet);
+        if read_lifts(&sheet).is_err() || filled_sheet == sheet {
+            continue;
+        }
+        let (reply, result) = agreed_sheet(&sheet, &text);
+        let filled = (reply, filled_in(&result));
+        assert_eq!(agreed_sheet(&filled_sheet, &text), filled);
+        match reply {
+            Intake::Taken { .. } => taken += 1,
+            Intake::Refused { .. } => refused += 1,
+        }
+    }
+    assert!(taken >= 5_000 && refused >= 5_000, "{taken} {refused}");
 }
 
 #[test]
@@ -663,7 +684,7 @@ fn full_sheets_agree() {
         seeded.shuffle(&mut counted);
         counted.truncate(3_870);
         for lift in &mut counted {
-            lift.new_measure = lift.new_measure.div_ceil(2);
+            lift.new_measure = lift.filled_measure().div_ceil(2);
         }
         let (reply, _) = agreed_sheet(&sheet, &text_of(&counted));
         assert_eq!(reply, taken(3_870));

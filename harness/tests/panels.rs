@@ -602,7 +602,7 @@ fn number_of(reply: Reply) -> usize {
 #[test]
 fn seeded_sheets_agree() {
     let mut seeded = Seeded::new(12);
-    let mut counts = [0; 14];
+    let mut counts = [0; 17];
     for _ in 0..120_000 {
         let lifts = any_lifts(&mut seeded);
         let script = Script::new(&mut seeded, lifts);
@@ -619,7 +619,12 @@ fn seeded_sheets_agree() {
         };
         counts[number_of(agreed(lent))] += 1;
     }
-    assert!(counts.iter().all(|&sheets| sheets >= 100), "{counts:?}");
+    // There is no text, so 14 and 15 are never given.
+    let [given @ .., 0, 0, newcomers] = counts else {
+        panic!("{counts:?}");
+    };
+    assert!(given.iter().all(|&sheets| sheets >= 100), "{counts:?}");
+    assert!(newcomers >= 1_000, "{counts:?}");
 }
 
 /// A place of small measure in one of the rounds, seldom in none.

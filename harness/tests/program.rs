@@ -327,7 +327,7 @@ fn any_words(seeded: &mut Seeded, mut words: Vec<u64>) -> Vec<u8> {
 #[test]
 fn seeded_files_agree() {
     let mut seeded = Seeded::new(22);
-    let mut counts = [0; 14];
+    let mut counts = [0; 17];
     for _ in 0..4_000 {
         let lifts = any_lifts(&mut seeded);
         let words = words_for(&mut seeded, &lifts);
@@ -335,10 +335,10 @@ fn seeded_files_agree() {
         let words = any_words(&mut seeded, words);
         counts[number_of(&agreed(Some(&sheet), Some(&words)))] += 1;
     }
-    // The start is 0 and the output has room for all choices, so 11 and 12 are never given.
-    let [given @ .., 0, 0, short] = counts else {
+    // The start is 0, the output has room for all choices and there is no text, so 11, 12, 14 and 15 are never given.
+    let [given @ .., 0, 0, short, 0, 0, newcomers] = counts else {
         panic!("{counts:?}");
     };
     assert!(given.iter().all(|&sheets| sheets >= 10), "{counts:?}");
-    assert!(short >= 10, "{counts:?}");
+    assert!(short >= 10 && newcomers >= 10, "{counts:?}");
 }

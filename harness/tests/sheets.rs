@@ -1,10 +1,11 @@
 //! Compares the archive's check of a sheet with the reference: the document's cases, its traps and seeded sheets.
 
 use harness::archive;
-use harness::reference::{check, write_sheet, SheetLift, Verdict};
+use harness::reference::{check, read_sheet, write_sheet, SheetLift, Verdict};
 use harness::seeded::Seeded;
 use harness::sheets::{damaged_sheet, fitting_lifts, LIFT_DAMAGES, WORD_DAMAGES};
-use harness::sheets::{held, lift, numbered, EXAMPLE, NONE};
+use harness::sheets::{held, lift, names_of_sheet_sorts, numbered, Checked, EXAMPLE, NONE};
+use std::collections::BTreeMap;
 
 /// The largest sum and measure.
 const LARGEST: u32 = 1_048_576;
@@ -681,6 +682,12 @@ fn number_of(verdict: Verdict) -> usize {
     }
 }
 
+/// Checks that each number that a sheet can be refused by has so many sheets, and that so many fit.
+fn check_reached(counts: &Counts, least: usize) {
+    let given = [&counts[..=10], &counts[16..]].concat();
+    assert!(given.iter().all(|&sheets| sheets >= least), "{counts:?}");
+}
+
 /// So many lifts or up to 12 more, of a sheet that fits.
 fn fitting(seeded: &mut Seeded, least: usize) -> Vec<SheetLift> {
     let count = least + seeded.index(13);
@@ -692,19 +699,28 @@ fn fitting_sheets_agree() {
     let mut seeded = Seeded::new(6);
     for _ in 0..50_000 {
         let lifts = fitting(&mut seeded, 0);
-        assert_eq!(number_of(agreed(&write_sheet(&lifts))), 0);
+        let words = write_sheet(&lifts);
+        assert_eq!(number_of(agreed(&words)), 0);
+        let read = read_sheet(&words).expect("the sheet fits");
+        assert_eq!(read.lifts, lifts);
     }
 }
 
 #[test]
 fn each_damage_agrees_and_reaches_every_number() {
     let mut seeded = Seeded::new(7);
-    let mut counts = [0; 11];
+    let mut counts = [0; 17];
+    let names = names_of_sheet_sorts().into_iter();
+    let mut sorts: BTreeMap<&str, u32> = names.map(|name| (name, 0)).collect();
     for _ in 0..6_000 {
         for damage in LIFT_DAMAGES {
             let mut lifts = fitting(&mut seeded, 1);
             damage(&mut seeded, &mut lifts);
-            counts[number_of(agreed(&write_sheet(&lifts)))] += 1;
+            let verdict = agreed(&write_sheet(&lifts));
+            counts[number_of(verdict)] += 1;
+            for name in Checked::new(lifts, verdict).sorts() {
+                *sorts.get_mut(name).expect("all names are there") += 1;
+            }
         }
         for damage in WORD_DAMAGES {
             let mut words = write_sheet(&fitting(&mut seeded, 0));
@@ -712,25 +728,26 @@ fn each_damage_agrees_and_reaches_every_number() {
             counts[number_of(agreed(&words))] += 1;
         }
     }
-    assert!(counts.iter().all(|&sheets| sheets >= 1_000), "{counts:?}");
+    check_reached(&counts, 1_000);
+    assert!(sorts.values().all(|&sheets| sheets >= 500), "{sorts:#?}");
 }
 
 #[test]
 fn sheets_damaged_many_times_agree() {
     let mut seeded = Seeded::new(8);
-    let mut counts = [0; 11];
+    let mut counts = [0; 17];
     for _ in 0..200_000 {
         let lifts = fitting(&mut seeded, 0);
         let words = damaged_sheet(&mut seeded, lifts, 3);
         counts[number_of(agreed(&words))] += 1;
     }
-    assert!(counts.iter().all(|&sheets| sheets >= 1_000), "{counts:?}");
+    check_reached(&counts, 1_000);
 }
 
 #[test]
 fn sheets_of_full_size_agree() {
     let mut seeded = Seeded::new(9);
-    let mut counts = [0; 11];
+    let mut counts = [0; 17];
     for _ in 0..400 {
         let count = 4_080 + seeded.index(20);
         let lifts = fitting_lifts(&mut seeded, count, 300);
@@ -738,5 +755,5 @@ fn sheets_of_full_size_agree() {
         let words = damaged_sheet(&mut seeded, lifts, 1);
         counts[number_of(agreed(&words))] += 1;
     }
-    assert!(counts.iter().all(|&sheets| sheets >= 1), "{counts:?}");
+    check_reached(&counts, 1);
 }

@@ -1,7 +1,8 @@
 //! Ways to damage a sheet. After some of them it may still fit.
 
 use super::{any, any_round, new_measures, number_lifts};
-use crate::reference::{write_sheet, SheetLift, LARGEST_SUM, LONGEST_SHEET, MOST_ROUNDS};
+use crate::reference::{new_sum, old_sum, write_sheet, SheetLift};
+use crate::reference::{LARGEST_SUM, LONGEST_SHEET, MOST_ROUNDS, NOT_COUNTED};
 use crate::seeded::Seeded;
 use std::collections::BTreeSet;
 
@@ -18,7 +19,7 @@ type LiftDamage = fn(&mut Seeded, &mut Lifts);
 type WordDamage = fn(&mut Seeded, &mut Sheet);
 
 /// All ways to damage lifts.
-pub const LIFT_DAMAGES: [LiftDamage; 17] = [
+pub const LIFT_DAMAGES: [LiftDamage; 25] = [
     repeat_number,
     zero_number,
     exceed_rounds,
@@ -36,10 +37,28 @@ pub const LIFT_DAMAGES: [LiftDamage; 17] = [
     change_new_round,
     withdraw,
     add_donors,
+    silence_any,
+    silence_newcomer,
+    silence_newcomer_beside_4,
+    silence_old_place,
+    silence_without_round,
+    silence_round,
+    silence_without_measure,
+    take_ones_less_1,
+];
+
+/// Ways to damage a place so that it is refused by 4.
+const PLACE_DAMAGES: [LiftDamage; 6] = [
+    exceed_rounds,
+    exceed_measure,
+    measure_round_0,
+    silence_old_place,
+    silence_without_round,
+    take_ones_less_1,
 ];
 
 /// All ways to damage words.
-pub const WORD_DAMAGES: [WordDamage; 12] = [
+pub const WORD_DAMAGES: [WordDamage; 13] = [
     flip_bits,
     change_kind,
     change_word,
@@ -48,6 +67,7 @@ pub const WORD_DAMAGES: [WordDamage; 12] = [
     delete_word,
     change_count,
     fill_held_word,
+    fill_measure,
     cut_short,
     write_behind_end,
     lengthen,
@@ -119,9 +139,9 @@ fn exceed_rounds(seeded: &mut Seeded, lifts: &mut Lifts) {
     *any_place(seeded, lifts).0 = MOST_ROUNDS + 1 + seeded.below(beyond.into()) as u32;
 }
 
-/// A measure is above the largest, by 1 or more.
+/// A measure is above the largest, by 1 or more, and not all ones.
 fn exceed_measure(seeded: &mut Seeded, lifts: &mut Lifts) {
-    let beyond = any(seeded, &[1, (1 << 21) - 1 - LARGEST_SUM]);
+    let beyond = any(seeded, &[1, NOT_COUNTED - 1 - LARGEST_SUM]);
     *any_place(seeded, lifts).1 = LARGEST_SUM + 1 + seeded.below(beyond.into()) as u32;
 }
 
@@ -172,23 +192,26 @@ pub(crate) fn empty_new_round(seeded: &mut Seeded, lifts: &mut Lifts) {
 
 /// An old round's sum is the largest or one more.
 fn fill_old_round(seeded: &mut Seeded, lifts: &mut Lifts) {
-    let round = one_of(seeded, lifts).old_round;
-    let lifts = lifts.iter_mut().filter(|lift| lift.old_round == round);
-    fill(seeded, lifts.map(|lift| &mut lift.old_measure).collect());
+    let place = seeded.index(lifts.len());
+    let mut others = lifts.clone();
+    let round = others.swap_remove(place).old_round;
+    others.retain(|lift| lift.old_round == round);
+    lifts[place].old_measure = rest(seeded, old_sum(&others));
 }
 
 /// A new round's sum is the largest or one more.
 pub(crate) fn fill_new_round(seeded: &mut Seeded, lifts: &mut Lifts) {
-    let round = one_of(seeded, lifts).new_round;
-    fill(seeded, new_measures(lifts, round));
+    let place = seeded.index(lifts.len());
+    let mut others = lifts.clone();
+    let round = others.swap_remove(place).new_round;
+    others.retain(|lift| lift.new_round == round);
+    lifts[place].new_measure = rest(seeded, new_sum(&others));
 }
 
-/// Changes one of the measures so that their sum is the largest or one more.
-fn fill(seeded: &mut Seeded, mut measures: Vec<&mut u32>) {
-    let changed = measures.swap_remove(seeded.index(measures.len()));
-    let others: u64 = measures.iter().map(|measure| u64::from(**measure)).sum();
-    let sum = u64::from(LARGEST_SUM) + seeded.below(2);
-    *changed = sum.saturating_sub(others) as u32;
+/// The measure that makes a sum the largest or one more, 0 if it is more already.
+fn rest(seeded: &mut Seeded, sum: u64) -> u32 {
+    let wanted = u64::from(LARGEST_SUM) + seeded.below(2);
+    wanted.saturating_sub(sum) as u32
 }
 
 /// A measure is the largest.
@@ -212,12 +235,17 @@ fn withdraw(seeded: &mut Seeded, lifts: &mut Lifts) {
     (lift.new_round, lift.new_measure) = (0, 0);
 }
 
+/// The rounds that no lift names.
+fn unnamed_rounds(lifts: &[SheetLift], round_of: fn(&SheetLift) -> u32) -> Vec<u32> {
+    let named: BTreeSet<u32> = lifts.iter().map(round_of).collect();
+    let unnamed = (1..=MOST_ROUNDS).filter(|round| !named.contains(round));
+    unnamed.collect()
+}
+
 /// A new round gets the only lift of a further old round each, up to four times.
 fn add_donors(seeded: &mut Seeded, lifts: &mut Lifts) {
     let new_round = one_of(seeded, lifts).new_round;
-    let named: BTreeSet<u32> = lifts.iter().map(|lift| lift.old_round).collect();
-    let mut unnamed: Vec<u32> = (1..=MOST_ROUNDS).collect();
-    unnamed.retain(|round| !named.contains(round));
+    let mut unnamed = unnamed_rounds(lifts, |lift| lift.old_round);
     for _ in 0..unnamed.len().min(1 + seeded.index(4)) {
         let added = SheetLift {
             number: 0,
@@ -232,15 +260,82 @@ fn add_donors(seeded: &mut Seeded, lifts: &mut Lifts) {
     number_lifts(seeded, lifts);
 }
 
-/// A word: mostly of a kind of the sheet's, with a small payload, a place or any.
+/// A lift is not counted.
+fn silence_any(seeded: &mut Seeded, lifts: &mut Lifts) {
+    one_of(seeded, lifts).new_measure = NOT_COUNTED;
+}
+
+/// One newcomer or two are not counted.
+fn silence_newcomer(seeded: &mut Seeded, lifts: &mut Lifts) {
+    let newcomer = |lift: &SheetLift| lift.old_round == 0 && lift.new_round > 0;
+    for _ in 0..1 + seeded.index(2) {
+        if let Some(lift) = any_such(seeded, lifts, newcomer) {
+            lift.new_measure = NOT_COUNTED;
+        }
+    }
+}
+
+/// A newcomer is not counted, and a place is refused by 4: often another, at times the same.
+fn silence_newcomer_beside_4(seeded: &mut Seeded, lifts: &mut Lifts) {
+    silence_newcomer(seeded, lifts);
+    any(seeded, &PLACE_DAMAGES)(seeded, lifts);
+}
+
+/// An old place has all ones for its measure.
+fn silence_old_place(seeded: &mut Seeded, lifts: &mut Lifts) {
+    one_of(seeded, lifts).old_measure = NOT_COUNTED;
+}
+
+/// A lift, often a newcomer, is not counted in round 0 or in one above the highest.
+fn silence_without_round(seeded: &mut Seeded, lifts: &mut Lifts) {
+    let wanted: fn(&SheetLift) -> bool = match seeded.below(2) {
+        0 => |lift| lift.old_round == 0,
+        _ => |_| true,
+    };
+    if let Some(lift) = any_such(seeded, lifts, wanted) {
+        lift.new_round = any(seeded, &[0, MOST_ROUNDS + 1, 127]);
+        lift.new_measure = NOT_COUNTED;
+    }
+}
+
+/// The lifts of a new round are not counted but for newcomers, which have measure 0.
+pub(crate) fn silence_round(seeded: &mut Seeded, lifts: &mut Lifts) {
+    let round = one_of(seeded, lifts).new_round;
+    for lift in lifts.iter_mut().filter(|lift| lift.new_round == round) {
+        lift.new_measure = match lift.old_round {
+            0 => 0,
+            _ => NOT_COUNTED,
+        };
+    }
+}
+
+/// A lift of old measure 0, often alone in its new round, is not counted.
+pub(crate) fn silence_without_measure(seeded: &mut Seeded, lifts: &mut Lifts) {
+    let unnamed = unnamed_rounds(lifts, |lift| lift.new_round);
+    let lift = any_such(seeded, lifts, |lift| lift.old_round > 0 && !lift.held);
+    if let (Some(lift), false) = (lift, unnamed.is_empty()) {
+        if lift.new_round == 0 || seeded.below(2) == 0 {
+            lift.new_round = any(seeded, &unnamed);
+        }
+        (lift.old_measure, lift.new_measure) = (0, NOT_COUNTED);
+    }
+}
+
+/// A measure is all ones less 1.
+fn take_ones_less_1(seeded: &mut Seeded, lifts: &mut Lifts) {
+    *any_place(seeded, lifts).1 = NOT_COUNTED - 1;
+}
+
+/// A word: mostly of a kind of the sheet's, with a small payload, a place, at times one of all ones, or any.
 fn any_word(seeded: &mut Seeded) -> u32 {
     let kind = match seeded.below(8) {
         0 => seeded.below(16) as u32,
         _ => any(seeded, &[1, 2, 3, 4, 15]),
     };
-    let payload = match seeded.below(3) {
+    let payload = match seeded.below(4) {
         0 => seeded.below(6) as u32,
         1 => any_round(seeded) << 21 | seeded.below(12) as u32,
+        2 => any_round(seeded) << 21 | NOT_COUNTED,
         _ => seeded.below(1 << 28) as u32,
     };
     kind << 28 | payload
@@ -294,6 +389,13 @@ fn change_count(seeded: &mut Seeded, sheet: &mut Sheet) {
 fn fill_held_word(seeded: &mut Seeded, sheet: &mut Sheet) {
     if let Some(word) = any_such(seeded, sheet, |word| *word >> 28 == 4) {
         *word |= 1 << seeded.below(28);
+    }
+}
+
+/// A place has all ones for its measure.
+fn fill_measure(seeded: &mut Seeded, sheet: &mut Sheet) {
+    if let Some(word) = any_such(seeded, sheet, |word| [2, 3].contains(&(*word >> 28))) {
+        *word |= NOT_COUNTED;
     }
 }
 

@@ -3,17 +3,21 @@
 mod by_hand;
 mod damage;
 mod lifelike;
+mod sorts;
 mod words;
 
 pub use by_hand::{held, lift, numbered, Place, EXAMPLE, NONE};
 pub use damage::{damaged_sheet, LIFT_DAMAGES, WORD_DAMAGES};
 pub use lifelike::{lifelike_lifts, Town};
+pub use sorts::{names_of_sheet_sorts, Checked};
 pub use words::{add_round_words, add_sheet_words};
 
 pub(crate) use damage::{any_such, empty_new_round, fill_new_round, one_of};
+pub(crate) use damage::{silence_round, silence_without_measure};
 pub(crate) use lifelike::next_count;
+pub(crate) use sorts::number_of;
 
-use crate::reference::{SheetLift, MOST_ROUNDS};
+use crate::reference::{SheetLift, LARGEST_SUM, MOST_ROUNDS, NOT_COUNTED};
 use crate::seeded::Seeded;
 use std::collections::BTreeSet;
 
@@ -23,7 +27,7 @@ const HIGHEST_NUMBER: u32 = (1 << 28) - 1;
 /// A new round and the two old rounds, or one, that may send it measure.
 type Flow = (u32, [u32; 2]);
 
-/// Lifts of a sheet that fits: mostly few, at times hundreds, seldom up to the most.
+/// Lifts of a sheet that fits, some of them not counted: mostly few, at times hundreds, seldom up to the most.
 pub fn any_lifts(seeded: &mut Seeded) -> Vec<SheetLift> {
     let (most_lifts, most_rounds) = match seeded.below(1_000) {
         0..3 => (4_096, 1_500),
@@ -34,7 +38,7 @@ pub fn any_lifts(seeded: &mut Seeded) -> Vec<SheetLift> {
     fitting_lifts(seeded, count, most_rounds)
 }
 
-/// Lifts of a sheet that fits, in up to so many old rounds and as many new ones.
+/// Lifts of a sheet that fits, some of them not counted, in up to so many old rounds and as many new ones.
 pub fn fitting_lifts(seeded: &mut Seeded, count: usize, most_rounds: usize) -> Vec<SheetLift> {
     let old_rounds = some_rounds(seeded, most_rounds);
     let new_rounds = some_rounds(seeded, most_rounds);
@@ -47,10 +51,23 @@ pub fn fitting_lifts(seeded: &mut Seeded, count: usize, most_rounds: usize) -> V
         measure_old_round(seeded, &mut lifts, round);
     }
     for round in new_rounds {
-        measure(seeded, new_measures(&mut lifts, round));
+        measure_new_round(seeded, &mut lifts, round);
     }
     number_lifts(seeded, &mut lifts);
     lifts
+}
+
+/// The words of a sheet without a faulty word, with the old measure in each new place that was not counted.
+pub fn filled_in(sheet: &[u32]) -> Vec<u32> {
+    let mut words = sheet.to_vec();
+    for position in 1..words.len() {
+        let word = words[position];
+        if word >> 28 == 3 && word & NOT_COUNTED == NOT_COUNTED {
+            let old_measure = words[position - 1] & NOT_COUNTED;
+            words[position] = word - NOT_COUNTED + old_measure;
+        }
+    }
+    words
 }
 
 /// One of the items, of which there is at least one.
@@ -112,7 +129,34 @@ fn measure_old_round(seeded: &mut Seeded, lifts: &mut [SheetLift], round: u32) {
     sending[held].held = true;
 }
 
-/// The measures of a new round.
+/// Measures a new round, of which at times some lifts or all are not counted.
+fn measure_new_round(seeded: &mut Seeded, lifts: &mut [SheetLift], round: u32) {
+    let lifts = lifts.iter_mut().filter(|lift| lift.new_round == round);
+    let mut lifts: Vec<_> = lifts.collect();
+    let filled_in = silence_some(seeded, &mut lifts);
+    if filled_in == 0 && lifts.iter().all(|lift| lift.is_silent()) {
+        lifts.iter_mut().for_each(|lift| lift.new_measure = 0);
+    }
+    lifts.retain(|lift| !lift.is_silent());
+    let measures = lifts.into_iter().map(|lift| &mut lift.new_measure);
+    measure_up_to(seeded, measures.collect(), LARGEST_SUM - filled_in);
+}
+
+/// Some lifts of a new round that are no newcomers are not counted, as long as their old measures have room; gives the sum of these.
+fn silence_some(seeded: &mut Seeded, lifts: &mut [&mut SheetLift]) -> u32 {
+    let (chances, of) = any(seeded, &[(0, 1), (0, 1), (1, 4), (1, 2), (1, 1)]);
+    let mut filled_in = 0;
+    for lift in lifts.iter_mut().filter(|lift| lift.old_round > 0) {
+        let room = LARGEST_SUM - filled_in;
+        if seeded.below(of) < chances && lift.old_measure <= room {
+            lift.new_measure = NOT_COUNTED;
+            filled_in += lift.old_measure;
+        }
+    }
+    filled_in
+}
+
+/// The measures of a new round, as written.
 pub(crate) fn new_measures(lifts: &mut [SheetLift], round: u32) -> Vec<&mut u32> {
     let lifts = lifts.iter_mut().filter(|lift| lift.new_round == round);
     lifts.map(|lift| &mut lift.new_measure).collect()
@@ -120,7 +164,12 @@ pub(crate) fn new_measures(lifts: &mut [SheetLift], round: u32) -> Vec<&mut u32>
 
 /// Splits a round's sum into its measures.
 pub(crate) fn measure(seeded: &mut Seeded, measures: Vec<&mut u32>) {
-    let sum = seeded.round_sum();
+    measure_up_to(seeded, measures, LARGEST_SUM);
+}
+
+/// Splits a round's sum, or as much of it as there is room for, into these measures.
+fn measure_up_to(seeded: &mut Seeded, measures: Vec<&mut u32>, room: u32) {
+    let sum = seeded.round_sum().min(room.into());
     let parts = seeded.split(sum, measures.len().max(1));
     for (measure, part) in measures.into_iter().zip(parts) {
         *measure = part as u32;

@@ -7,8 +7,9 @@ pub use sorts::{names_of_sorts, Case};
 
 use crate::reference::{write_sheet, SheetLift, LARGEST_SUM};
 use crate::seeded::Seeded;
-use crate::sheets::{any, any_lifts, any_such, empty_new_round, fill_new_round};
-use crate::sheets::{measure, new_measures, next_count, one_of, LIFT_DAMAGES, WORD_DAMAGES};
+use crate::sheets::{any, any_lifts, any_such, measure, new_measures, next_count, one_of};
+use crate::sheets::{empty_new_round, fill_new_round, silence_round, silence_without_measure};
+use crate::sheets::{LIFT_DAMAGES, WORD_DAMAGES};
 use damage::{damage_entries, damage_lines, damage_text};
 use std::collections::BTreeSet;
 
@@ -24,23 +25,29 @@ type Line = Vec<u8>;
 /// The lifts of a sheet.
 type Lifts = Vec<SheetLift>;
 
-/// Changes the new measures of lifts, of which there is at least one.
+/// Changes the new measures of lifts, of which there is at least one, or leaves lifts out.
 type Measuring = fn(&mut Seeded, &mut Lifts);
 
 /// All ways to choose what lines give; with some of them the result may not fit.
-const MEASURINGS: [Measuring; 8] = [
+const MEASURINGS: [Measuring; 9] = [
     keep,
     split_anew,
     split_anew,
     take_small,
     fill_new_round,
     empty_new_round,
+    empty_beside_silent,
     give_all_to_one,
     measure_withdrawn,
 ];
 
 /// Damages to lifts that lines can cure.
-const CURABLE: [Measuring; 2] = [fill_new_round, empty_new_round];
+const CURABLE: [Measuring; 4] = [
+    fill_new_round,
+    empty_new_round,
+    silence_round,
+    silence_without_measure,
+];
 
 /// A sheet and a text for it, each at times damaged.
 pub struct Lent {
@@ -57,7 +64,7 @@ pub fn any_lent(seeded: &mut Seeded) -> Lent {
     match seeded.below(8) {
         _ if lifts.is_empty() => {}
         0 | 1 => any(seeded, &LIFT_DAMAGES)(seeded, &mut lifts),
-        2 => any(seeded, &CURABLE)(seeded, &mut lifts),
+        2 | 3 => any(seeded, &CURABLE)(seeded, &mut lifts),
         _ => {}
     }
     let mut sheet = write_sheet(&lifts);
@@ -90,9 +97,9 @@ pub fn any_text(seeded: &mut Seeded, lifts: &[SheetLift]) -> Vec<u8> {
     text
 }
 
-/// A text of a line for each of these lifts in this order, with the counts of their new measures.
+/// A text of a line for each of these lifts in this order, with the counts of the new measures that count.
 pub fn text_of(lifts: &[SheetLift]) -> Vec<u8> {
-    let entry = |lift: &SheetLift| (lift.number, 100 * lift.new_measure);
+    let entry = |lift: &SheetLift| (lift.number, 100 * lift.filled_measure());
     text_of_entries(lifts.iter().map(entry))
 }
 
@@ -116,15 +123,18 @@ fn text_of_entries(entries: impl Iterator<Item = (u32, u32)>) -> Vec<u8> {
 
 /// Entries for some of the lifts or all, in any order.
 fn any_entries(seeded: &mut Seeded, lifts: &[SheetLift]) -> Entries {
+    let silent = lifts.iter().filter(|lift| lift.is_silent());
+    let silent: BTreeSet<u32> = silent.map(|lift| lift.number).collect();
     let mut lifts = lifts.to_vec();
     if !lifts.is_empty() {
         any(seeded, &MEASURINGS)(seeded, &mut lifts);
     }
-    match seeded.below(24) {
+    match seeded.below(32) {
         0 => lifts.clear(),
         1..4 => lifts.retain(|lift| lift.new_round > 0),
         4..7 => lifts.retain(|_| seeded.below(4) == 0),
         7..14 => lifts.retain(|_| seeded.below(4) > 0),
+        14..22 => lifts.retain(|lift| !silent.contains(&lift.number)),
         _ => {}
     }
     match seeded.below(3) {
@@ -136,11 +146,11 @@ fn any_entries(seeded: &mut Seeded, lifts: &[SheetLift]) -> Entries {
     entries.collect()
 }
 
-/// The entry that gives a lift its new measure: the largest such count, the smallest or any.
+/// The entry that gives a lift the new measure that counts: the largest such count, the smallest or any.
 fn entry_of(seeded: &mut Seeded, lift: &SheetLift) -> Entry {
     let rounded = seeded.below(100);
     let rounded = any(seeded, &[0, 99, rounded]);
-    let count = 100 * u64::from(lift.new_measure);
+    let count = 100 * u64::from(lift.filled_measure());
     (lift.number.into(), count.saturating_sub(rounded).into())
 }
 
@@ -192,6 +202,16 @@ fn split_anew(seeded: &mut Seeded, lifts: &mut Lifts) {
 fn take_small(seeded: &mut Seeded, lifts: &mut Lifts) {
     for lift in lifts.iter_mut().filter(|lift| lift.new_round > 0) {
         lift.new_measure = seeded.below(3) as u32;
+    }
+}
+
+/// A new round in which a lift of old measure 0 was not counted has measures of 0; lifts that were not counted are left out.
+fn empty_beside_silent(seeded: &mut Seeded, lifts: &mut Lifts) {
+    let silent = |lift: &SheetLift| lift.is_silent() && lift.old_measure == 0;
+    let round = any_such(seeded, lifts, silent).map(|lift| lift.new_round);
+    lifts.retain(|lift| !lift.is_silent());
+    for measure in round.map_or(Vec::new(), |round| new_measures(lifts, round)) {
+        *measure = 0;
     }
 }
 

@@ -1,12 +1,15 @@
 //! The sorts of cases that seeded texts are to yield.
 
 use super::Lent;
-use crate::reference::{check, read_sheet, take_counts, Intake, Verdict};
+use crate::reference::{check, read_lifts, take_counts, Intake, SheetLift, Verdict};
+use crate::sheets::number_of;
 use std::str;
 
 /// A text on a sheet, with the reply.
 pub struct Case {
     lent: Lent,
+    /// The lifts of the sheet lent, if it can be read.
+    lifts: Vec<SheetLift>,
     /// What the sheet lent is found to be.
     verdict: Verdict,
     reply: Intake,
@@ -21,7 +24,7 @@ type LineSort = (&'static str, fn(&[u8]) -> bool);
 type CaseSort = (&'static str, fn(&Case) -> bool);
 
 /// The sorts of texts that are taken.
-const TAKEN_SORTS: [CaseSort; 17] = [
+const TAKEN_SORTS: [CaseSort; 22] = [
     ("ended by LF", |case| case.lines().any(ends_by_lf)),
     ("ended by CR LF", |case| case.lines().any(ends_by_cr_lf)),
     ("ended by both", |case| {
@@ -60,8 +63,27 @@ const TAKEN_SORTS: [CaseSort; 17] = [
         number_of(case.verdict) == 8
     }),
     ("some lifts", |case| {
-        !case.entries.is_empty() && case.lifts() > case.entries.len()
+        !case.entries.is_empty() && case.lifts.len() > case.entries.len()
     }),
+    ("lift not counted with a line", |case| {
+        case.silent().any(|lift| case.names(lift.number.into()))
+    }),
+    ("lift not counted with count 0", |case| {
+        let mut silent = case.silent();
+        silent.any(|lift| case.entries.contains(&(lift.number.into(), 0)))
+    }),
+    ("lines, but not for a lift not counted", |case| {
+        let mut silent = case.silent();
+        let stays = silent.any(|lift| !case.names(lift.number.into()));
+        stays && !case.entries.is_empty()
+    }),
+    ("sum 0 with a lift not counted cured", |case| {
+        number_of(case.verdict) == 9 && case.silent().any(|lift| case.is_blamed(lift))
+    }),
+    (
+        "sum above the largest with a lift not counted cured",
+        |case| number_of(case.verdict) == 8 && case.silent().any(|lift| case.is_blamed(lift)),
+    ),
 ];
 
 /// The sorts of lines refused by 14: each has no other fault.
@@ -113,7 +135,7 @@ const LINE_SORTS: [LineSort; 20] = [
 ];
 
 /// The sorts of texts that are refused.
-const REFUSED_SORTS: [CaseSort; 17] = [
+const REFUSED_SORTS: [CaseSort; 21] = [
     ("absent lift", |case| {
         case.refuses_lift(|case, number| !case.names(number))
     }),
@@ -159,6 +181,19 @@ const REFUSED_SORTS: [CaseSort; 17] = [
     ("no line, refused by the rounds", |case| {
         case.lent.text.is_empty() && (7..=10).contains(&case.number())
     }),
+    ("newcomer not counted, with a line", |case| {
+        case.is_refused_by(16) && case.has_line_for_newcomer()
+    }),
+    ("newcomer not counted, without a line", |case| {
+        case.is_refused_by(16) && !case.has_line_for_newcomer()
+    }),
+    (
+        "sum above the largest caused beside a lift not counted",
+        |case| case.is_caused(8) && case.stays_silent_where_refused(),
+    ),
+    ("sum 0 caused beside a lift not counted", |case| {
+        case.is_caused(9) && case.stays_silent_where_refused()
+    }),
 ];
 
 /// The names of all sorts.
@@ -173,6 +208,7 @@ impl Case {
     /// What was lent, and what was replied.
     pub fn new(lent: Lent, reply: Intake) -> Case {
         let mut case = Case {
+            lifts: read_lifts(&lent.sheet).unwrap_or_default(),
             verdict: check(&lent.sheet),
             lent,
             reply,
@@ -190,9 +226,17 @@ impl Case {
         number_of_reply(self.reply)
     }
 
-    /// Whether the sheet lent is refused by 1 to 6.
+    /// The place of a refusal, 0 for counts taken.
+    fn place(&self) -> usize {
+        match self.reply {
+            Intake::Refused { place, .. } => place,
+            Intake::Taken { .. } => 0,
+        }
+    }
+
+    /// Whether the sheet lent is refused by 1 to 6, or 16.
     pub fn is_refused_unread(&self) -> bool {
-        (1..=6).contains(&number_of(self.verdict))
+        matches!(number_of(self.verdict), 1..=6 | 16)
     }
 
     /// Whether a line would be refused if the sheet had no damage.
@@ -278,24 +322,40 @@ impl Case {
         self.entries.iter().any(|entry| entry.1 == count)
     }
 
-    /// How many lifts a sheet that fits has, else 0.
-    fn lifts(&self) -> usize {
-        match self.verdict {
-            Verdict::Fits { lifts, .. } => lifts,
-            Verdict::Refused { .. } => 0,
-        }
-    }
-
     /// Whether all lifts, of which there are three or more, have lines.
     fn names_all(&self) -> bool {
-        self.lifts() >= 3 && self.lifts() == self.entries.len()
+        self.lifts.len() >= 3 && self.lifts.len() == self.entries.len()
     }
 
-    /// The numbers of the withdrawn lifts of a sheet that fits.
+    /// The numbers of the withdrawn lifts.
     fn withdrawn(&self) -> Vec<u128> {
-        let lifts = read_sheet(&self.lent.sheet).map_or(Vec::new(), |sheet| sheet.lifts);
-        let lifts = lifts.iter().filter(|lift| lift.new_round == 0);
+        let lifts = self.lifts.iter().filter(|lift| lift.new_round == 0);
         lifts.map(|lift| lift.number.into()).collect()
+    }
+
+    /// The lifts that were not counted in the sheet lent.
+    fn silent(&self) -> impl Iterator<Item = &SheetLift> {
+        self.lifts.iter().filter(|lift| lift.is_silent())
+    }
+
+    /// Whether a lift is in the new round that the sheet lent is refused for.
+    fn is_blamed(&self, lift: &SheetLift) -> bool {
+        let round = lift.new_round as usize;
+        matches!(self.verdict, Verdict::Refused { place, .. } if place == round)
+    }
+
+    /// Whether a lift of the new round that the result is refused for was not counted and has no line.
+    fn stays_silent_where_refused(&self) -> bool {
+        let mut silent = self.silent();
+        silent
+            .any(|lift| lift.new_round as usize == self.place() && !self.names(lift.number.into()))
+    }
+
+    /// Whether a line has the number of the newcomer that was not counted.
+    fn has_line_for_newcomer(&self) -> bool {
+        let number = self.lent.sheet[self.place() - 2] << 4 >> 4;
+        let mut lines = self.lines().filter(|line| has_form(line));
+        lines.any(|line| entry_of(line).0 == number.into())
     }
 
     /// The numbers of the withdrawn lifts that lines give a count above 0, line by line.
@@ -306,14 +366,6 @@ impl Case {
         numbers
             .filter(|number| withdrawn.contains(number))
             .collect()
-    }
-}
-
-/// The document's number, 0 for a sheet that fits.
-fn number_of(verdict: Verdict) -> u32 {
-    match verdict {
-        Verdict::Refused { number, .. } => number,
-        Verdict::Fits { .. } => 0,
     }
 }
 
