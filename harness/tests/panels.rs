@@ -4,7 +4,7 @@ use harness::reference::{choose_by, donors, new_rounds, new_sum, old_sum};
 use harness::reference::{read_sheet, write_sheet, Reply, Round, Sheet, SheetLift};
 use harness::seeded::Seeded;
 use harness::sheets::{add_round_words, add_sheet_words, any_lifts, damaged_sheet, fitting_lifts};
-use harness::sheets::{held, lift, numbered, Place, EXAMPLE, NONE};
+use harness::sheets::{filled_in, held, lift, numbered, Place, EXAMPLE, NONE};
 use harness::ways::{step, Drawn, Weights};
 use harness::{archive, reference};
 use std::collections::BTreeSet;
@@ -627,6 +627,76 @@ fn seeded_sheets_agree() {
     assert!(newcomers >= 1_000, "{counts:?}");
 }
 
+/// Whether a lift was not counted.
+fn is_silent(lift: &SheetLift) -> bool {
+    lift.new_measure == NOT_COUNTED
+}
+
+/// A sheet that fits, some of whose lifts were not counted, and words that just suffice.
+fn silent_script(seeded: &mut Seeded) -> Script {
+    loop {
+        let lifts = any_lifts(seeded);
+        if lifts.iter().any(is_silent) {
+            return Script::new(seeded, lifts);
+        }
+    }
+}
+
+/// The outcomes of an output's pairs that have a lift that was not counted.
+fn silent_outcomes(lifts: &[SheetLift], pairs: &[u32]) -> Vec<usize> {
+    let silent: BTreeSet<u32> = lifts
+        .iter()
+        .filter(|lift| is_silent(lift))
+        .map(|lift| lift.number)
+        .collect();
+    let pairs = pairs.chunks(2);
+    let pairs = pairs.filter(|pair| silent.contains(&(pair[1] - (6 << 28))));
+    pairs.map(|pair| (pair[0] & 0x1F_FFFF) as usize).collect()
+}
+
+#[test]
+fn sheets_with_lifts_not_counted_agree() {
+    let mut seeded = Seeded::new(24);
+    let (mut outcomes, mut held) = ([0; 4], 0);
+    for _ in 0..50_000 {
+        let script = silent_script(&mut seeded);
+        let (_, pairs) = agreed_output(script.lent());
+        for outcome in silent_outcomes(&script.lifts, &pairs) {
+            outcomes[outcome] += 1;
+        }
+        let mut lifts = script.lifts.iter();
+        held += usize::from(lifts.any(|lift| lift.held && is_silent(lift)));
+        script.check_whole(&mut seeded);
+    }
+    assert!(
+        outcomes[1..].iter().all(|&pairs| pairs >= 2_000),
+        "{outcomes:?}"
+    );
+    assert!(held >= 5_000, "{held}");
+}
+
+#[test]
+fn old_measures_in_place_of_counts_change_nothing() {
+    let mut seeded = Seeded::new(25);
+    let mut chosen = 0;
+    for _ in 0..50_000 {
+        let script = silent_script(&mut seeded);
+        let count = any_count(&mut seeded, script.words.len());
+        let lent = Lent {
+            words: &script.words[..count],
+            start: any_start(&mut seeded, script.start, count),
+            out_len: any_out_len(&mut seeded, 2 * script.rounds),
+            ..script.lent()
+        };
+        let sheet = &filled_in(&script.sheet);
+        assert_ne!(*sheet, script.sheet);
+        let (reply, output) = agreed_output(lent);
+        assert_eq!(agreed_output(Lent { sheet, ..lent }), (reply, output));
+        chosen += usize::from(number_of(reply) == 0);
+    }
+    assert!(chosen >= 10_000, "{chosen}");
+}
+
 /// A place of small measure in one of the rounds, seldom in none.
 fn small_place(seeded: &mut Seeded, rounds: &[u32]) -> Place {
     let round = rounds[seeded.index(rounds.len())];
@@ -643,7 +713,11 @@ fn small_lifts(seeded: &mut Seeded) -> Vec<SheetLift> {
     let mut lifts = Vec::new();
     for _ in 0..3 + seeded.index(5) {
         let old = small_place(seeded, old_rounds);
-        lifts.push(lift(old, small_place(seeded, new_rounds)));
+        let mut new = small_place(seeded, new_rounds);
+        if old.0 > 0 && new.0 > 0 && seeded.below(4) == 0 {
+            new.1 = NOT_COUNTED;
+        }
+        lifts.push(lift(old, new));
     }
     numbered(&lifts, 1)
 }
@@ -749,7 +823,7 @@ fn check_shares(seeded: &mut Seeded, lifts: &[SheetLift], sheet: &Sheet) -> usiz
         let (weights, common) = weights.total();
         for (lift, weight) in lifts.iter().zip(weights) {
             let here = u32::from(lift.new_round == round);
-            let expected = whole * common * u128::from(here * lift.new_measure);
+            let expected = whole * common * u128::from(here * lift.filled_measure());
             let weight = weight * u128::from(new_sum(in_round));
             assert_eq!(weight, expected, "{lift:?} in {round} of {lifts:?}");
         }
@@ -757,13 +831,19 @@ fn check_shares(seeded: &mut Seeded, lifts: &[SheetLift], sheet: &Sheet) -> usiz
     ways
 }
 
-/// Counts a sheet's new rounds with each marking, by their donors and their held lifts here.
-fn count_sorts(lifts: &[SheetLift], sheet: &Sheet, sorts: &mut [[usize; 3]; 3]) {
+/// How many rounds there are, by their donors and their held lifts here.
+type Sorts = [[usize; 3]; 3];
+
+/// Counts a sheet's new rounds with each marking: all of them, and those in which a lift was not counted.
+fn count_sorts(lifts: &[SheetLift], sheet: &Sheet, sorts: &mut [Sorts; 2]) {
     for (marked, _) in markings(lifts) {
         for (&round, in_round) in &sheet.new_rounds {
             let here = marked.iter().filter(|lift| lift.new_round == round);
             let held = here.filter(|lift| lift.held).count();
-            sorts[donors(in_round).len()][held] += 1;
+            let silent = in_round.iter().any(is_silent);
+            for sorts in &mut sorts[..=usize::from(silent)] {
+                sorts[donors(in_round).len()][held] += 1;
+            }
         }
     }
 }
@@ -771,18 +851,22 @@ fn count_sorts(lifts: &[SheetLift], sheet: &Sheet, sorts: &mut [[usize; 3]; 3]) 
 #[test]
 fn shares_are_exact() {
     let mut seeded = Seeded::new(13);
-    let (mut sheets, mut ways) = (0, 0);
-    let mut sorts = [[0; 3]; 3];
-    while sheets < 60 {
+    let (mut sheets, mut silent_sheets, mut ways) = (0, 0, 0);
+    let mut sorts = [[[0; 3]; 3]; 2];
+    while sheets < 120 {
         let lifts = small_lifts(&mut seeded);
         if let Some(sheet) = small_sheet(&lifts) {
             ways += check_shares(&mut seeded, &lifts, &sheet);
             count_sorts(&lifts, &sheet, &mut sorts);
             sheets += 1;
+            silent_sheets += usize::from(lifts.iter().any(is_silent));
         }
     }
     assert!(ways >= 100_000, "{ways}");
-    let [[none, ..], [one @ .., _], two] = sorts;
+    assert!(3 * silent_sheets >= sheets, "{silent_sheets}");
+    let [[[none, ..], [one @ .., _], two], [_, [silent_one @ .., _], silent_two]] = sorts;
     let counts = [&[none][..], &one, &two].concat();
     assert!(counts.iter().all(|&rounds| rounds >= 10), "{sorts:?}");
+    let silent_counts = [&silent_one[..], &silent_two].concat();
+    assert!(silent_counts.iter().all(|&rounds| rounds >= 5), "{sorts:?}");
 }
