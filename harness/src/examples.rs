@@ -1,6 +1,6 @@
 //! The examples: folders with the program's two files, one of them also with counts.
 
-use crate::reference::write_sheet;
+use crate::reference::{write_sheet, NOT_COUNTED};
 use crate::seeded::Seeded;
 use crate::sheets::{lifelike_lifts, Town, EXAMPLE};
 use crate::texts::lifelike_text;
@@ -17,6 +17,9 @@ pub const COUNTS_FILE: &str = "counts.csv";
 /// The seed of the quarter, and of its counts.
 const SEED: u64 = 2031;
 const COUNTS_SEED: u64 = 2032;
+
+/// The numbers of the quarter's lifts whose modems were dead: they have no line in the counts.
+const SILENT: [u32; 3] = [2_396, 2_923, 10_452];
 
 /// How many random words the quarter has.
 const WORDS: usize = 4_096;
@@ -55,12 +58,16 @@ fn small(folder: &'static str) -> Example {
     }
 }
 
-/// A quarter of a whole town.
+/// A quarter of a whole town; three of its lifts were not counted.
 fn quarter(folder: &'static str) -> Example {
     let mut seeded = Seeded::new(SEED);
-    let lifts = lifelike_lifts(&mut seeded, TOWN);
+    let mut lifts = lifelike_lifts(&mut seeded, TOWN);
     let words: Vec<u64> = (0..WORDS).map(|_| seeded.word()).collect();
     let counts = lifelike_text(&mut Seeded::new(COUNTS_SEED), &lifts);
+    let silent = lifts
+        .iter_mut()
+        .filter(|lift| SILENT.contains(&lift.number));
+    silent.for_each(|lift| lift.new_measure = NOT_COUNTED);
     Example {
         folder,
         sheet: sheet_bytes(&write_sheet(&lifts)),
