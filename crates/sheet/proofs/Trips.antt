@@ -15,12 +15,8 @@ use Rattle.sheet.specs.Law.{Placed, Proper, Listed, Listable, ReadTheore
 use Rattle.sheet.specs.declared.Before.{Before}
 
 -- what the words before tell, from its parts
-abbrev state : ℕ → ℕ → Place → ℕ → Before
-state k n p c = record { kind = k; number = n; from = p .round; old = p .measure; lifts = c }
-
--- the old place among it
-abbrev oldPlace : Before → Place
-oldPlace s = record { round = s .from; measure = s .old }
+abbrev state : ℕ → ℕ → ℕ → ℕ → Before
+state k n o c = record { kind = k; number = n; old = o; lifts = c }
 
 -- the held mark of a lift, and what follows
 abbrev marked : Bool → List ℕ → List ℕ
@@ -50,9 +46,9 @@ record Passes (s : Before) (w : ℕ) : Type 0 where
   order : follows (s .kind) (kind w) ≡ true
   number : kind w ≡ liftKind → s .number < payload w
   place : isPlace (kind w) ≡ true → Placed (kind w) (placeOf w)
-  newcomer : kind w ≡ newKind → s .from ≡ 0 → placeOf w .measure ≡ notCounted → ⊥
+  newcomer : kind w ≡ newKind → placeOf (s .old) .round ≡ 0 → placeOf w .measure ≡ notCounted → ⊥
   count : kind w ≡ endKind → (payload w ≡ s .lifts) × (payload w ≤ mostLifts)
-  mark : kind w ≡ heldKind → (payload w ≡ 0) × (0 < s .old)
+  mark : kind w ≡ heldKind → (payload w ≡ 0) × (0 < placeOf (s .old) .measure)
 
 passes : (s : Before) (w : ℕ) → fault s w ≡ 0 → Passes s w
 unfolding fault
@@ -72,7 +68,7 @@ passes s w h =
           record { round = ltb-false _ _ (b .0); measure = b .1; nowhere = λ z. eqb-true _ _ (not-false _ (rw (eq-eqb _ _ z) at (g .1))) };
       newcomer = λ e z. eqb-false _ _ (rw (e, eq-eqb _ _ z) at (f16 .0));
       count = λ e. let g = or-false _ _ (rw e at (f5 .0)) in (eqb-true _ _ (not-false _ (g .0)), ltb-false _ _ (g .1));
-      mark = λ e. let g = or-false _ _ (rw e at (f6 .0)) in (eqb-true _ _ (not-false _ (g .0)), omega (arith, eqb-false (s .old) 0 (g .1)));
+      mark = λ e. let g = or-false _ _ (rw e at (f6 .0)) in (eqb-true _ _ (not-false _ (g .0)), omega (arith, eqb-false (placeOf (s .old) .measure) 0 (g .1)));
     }
 
 -- ---- words that pass
@@ -99,7 +95,7 @@ ended s i (w ∷ ws) e h = absurd (false≢true (rw e at (first-passes s i w ws 
 -- the words of lifts and the end, perhaps behind a held mark of the lift before
 record Told (s : Before) (ws : List ℕ) : Type 0 where
   held : Bool
-  mark : held ≡ true → (eqb (s .kind) newKind ≡ true) × (0 < s .old)
+  mark : held ≡ true → (eqb (s .kind) newKind ≡ true) × (0 < placeOf (s .old) .measure)
   list : List Lift
   listed : Listed (s .number) list
   few : s .lifts + length list ≤ mostLifts
@@ -111,8 +107,8 @@ unmarked t e = rw (not-eq-not {b = false} .0 (λ h. true≢false (sym (t .mark h
 
 -- by the kind of the first word: a lift, the end or a held mark
 by-kind : (s : Before) (i w : ℕ) (ws : List ℕ) → Free (s .kind) → readFrom s i (w ∷ ws) ≡ sound
-    → (kind w ≡ liftKind → s .number < payload w → readFrom (state liftKind (payload w) (oldPlace s) (s .lifts + 1)) (i + 1) ws ≡ sound → Told s (w ∷ ws))
-    → (readFrom (state heldKind (s .number) (oldPlace s) (s .lifts)) (i + 1) ws ≡ sound → Told (state heldKind (s .number) (oldPlace s) (s .lifts)) ws)
+    → (kind w ≡ liftKind → s .number < payload w → readFrom (state liftKind (payload w) (s .old) (s .lifts + 1)) (i + 1) ws ≡ sound → Told s (w ∷ ws))
+    → (readFrom (state heldKind (s .number) (s .old) (s .lifts)) (i + 1) ws ≡ sound → Told (state heldKind (s .number) (s .old) (s .lifts)) ws)
     → Told s (w ∷ ws)
 unfolding written Listed
 by-kind s i w ws o h lift held =
@@ -134,7 +130,7 @@ by-kind s i w ws o h lift held =
 -- and the words of one lift more before them
 lift-told : (s : Before) (w v u : ℕ) (ws : List ℕ) → kind w ≡ liftKind → s .number < payload w → kind v ≡ oldKind → Placed oldKind (placeOf v) → kind u ≡ newKind
     → Placed newKind (placeOf u) → (placeOf v .round ≡ 0 → placeOf u .measure ≡ notCounted → ⊥)
-    → Told (state newKind (payload w) (placeOf v) (s .lifts + 1)) ws → Told s (w ∷ v ∷ u ∷ ws)
+    → Told (state newKind (payload w) v (s .lifts + 1)) ws → Told s (w ∷ v ∷ u ∷ ws)
 unfolding written Listed
 lift-told s w v u ws a l b old c new known t =
     let e : s .lifts + suc (length (t .list)) ≡ s .lifts + 1 + length (t .list) = omega arith in
@@ -212,15 +208,15 @@ not-beyond : (k : ℕ) (p : Place) → Placed k p → beyond k (p .round) (p .me
 not-beyond k p h = rw (le-ltb mostRounds (p .round) (h .round), h .measure) (and-false (p .round) 0 _ (λ e. ap not (eq-eqb _ _ (h .nowhere e))))
 
 -- a held mark passes if what follows does
-mark-passes : (n : ℕ) (p : Place) (c i : ℕ) (ws : List ℕ) (held : Bool) → (held ≡ true → 0 < p .measure)
-    → ((k j : ℕ) → Free k → readFrom (state k n p c) j ws ≡ sound) → readFrom (state newKind n p c) i (marked held ws) ≡ sound
+mark-passes : (n o c i : ℕ) (ws : List ℕ) (held : Bool) → (held ≡ true → 0 < placeOf o .measure)
+    → ((k j : ℕ) → Free k → readFrom (state k n o c) j ws ≡ sound) → readFrom (state newKind n o c) i (marked held ws) ≡ sound
 unfolding readFrom fault
-mark-passes n p c i ws true m r = let l = m refl in rw (ne-eqb (p .measure) 0 (omega arith)) (r heldKind (i + 1) (λ j. refl))
-mark-passes n p c i ws false m r = r newKind i (λ j. refl)
+mark-passes n o c i ws true m r = let l = m refl in rw (ne-eqb (placeOf o .measure) 0 (omega arith)) (r heldKind (i + 1) (λ j. refl))
+mark-passes n o c i ws false m r = r newKind i (λ j. refl)
 
 -- a lift passes if what follows does
 lift-passes : (s : Before) (i : ℕ) (ws : List ℕ) (l : Lift) → Free (s .kind) → Proper (s .number) l
-    → ((k j : ℕ) → Free k → readFrom (state k (l .number) (l .old) (s .lifts + 1)) j ws ≡ sound) → readFrom s i (wordsOf l ++ ws) ≡ sound
+    → ((k j : ℕ) → Free k → readFrom (state k (l .number) (placeWord oldKind (l .old)) (s .lifts + 1)) j ws ≡ sound) → readFrom s i (wordsOf l ++ ws) ≡ sound
 unfolding readFrom fault
 lift-passes s i ws l o p r =
     let u = placed-writable (p .old) in
@@ -229,7 +225,7 @@ lift-passes s i ws l o p r =
     (rw (kind-place oldKind (l .old) u, round-place oldKind (l .old) u, measure-place oldKind (l .old) u, not-beyond oldKind (l .old) (p .old))
     (rw (kind-place newKind (l .new) v, round-place newKind (l .new) v, measure-place newKind (l .new) v, not-beyond newKind (l .new) (p .new))
     (rw (and-false (l .old .round) 0 _ (λ e. ne-eqb (l .new .measure) notCounted (p .newcomer e)))
-    (mark-passes _ _ _ _ ws (l .held) (p .held) r))))
+    (mark-passes _ _ _ _ ws (l .held) (λ h. rw (measure-place oldKind (l .old) u) (p .held h)) r))))
 
 -- lifts pass, with an end word that counts them
 lifts-pass : (s : Before) (i e : ℕ) (ls : List Lift) → Free (s .kind) → Listed (s .number) ls → e ≡ s .lifts + length ls → e ≤ mostLifts

@@ -17,16 +17,15 @@ mislong ws = eqb (length ws) 0 || ltb longest (length ws)
 
 -- what the words before the first one tell: no kind, no lift
 abbrev pub start : Before
-start = record { kind = 0; number = 0; from = 0; old = 0; lifts = 0 }
+start = record { kind = 0; number = 0; old = 0; lifts = 0 }
 
--- what a word adds: its kind, a lift's number, a lift's old round and measure, one lift more
+-- what a word adds: its kind, a lift's number, the word of a lift's old place, one lift more
 abbrev pub next : Before → ℕ → Before
 next s w =
     record {
       kind = kind w;
       number = cond (eqb (kind w) liftKind) (payload w) (s .number);
-      from = cond (eqb (kind w) oldKind) (placeOf w .round) (s .from);
-      old = cond (eqb (kind w) oldKind) (placeOf w .measure) (s .old);
+      old = cond (eqb (kind w) oldKind) w (s .old);
       lifts = cond (eqb (kind w) liftKind) (s .lifts + 1) (s .lifts);
     }
 
@@ -67,7 +66,7 @@ misplaced w = isPlace (kind w) && beyond (kind w) (placeOf w .round) (placeOf w 
 
 -- "16 when a newcomer is not counted"; "Round 0 in an old place is a newcomer"
 abbrev pub uncountedNewcomer : Before → ℕ → Bool
-uncountedNewcomer s w = eqb (kind w) newKind && (eqb (s .from) 0 && eqb (placeOf w .measure) notCounted)
+uncountedNewcomer s w = eqb (kind w) newKind && (eqb (placeOf (s .old) .round) 0 && eqb (placeOf w .measure) notCounted)
 
 -- "5. End count not the number of lifts, or above 4,096."
 abbrev pub miscounted : Before → ℕ → Bool
@@ -75,7 +74,7 @@ miscounted s w = eqb (kind w) endKind && (not (eqb (payload w) (s .lifts)) || lt
 
 -- "6. A held word with payload other than 0, or whose lift has old measure 0."
 abbrev pub mismarked : Before → ℕ → Bool
-mismarked s w = eqb (kind w) heldKind && (not (eqb (payload w) 0) || eqb (s .old) 0)
+mismarked s w = eqb (kind w) heldKind && (not (eqb (payload w) 0) || eqb (placeOf (s .old) .measure) 0)
 
 -- the number of the first refusal that applies to a word, 0 if none does; 16 "wherever 4 is checked, after it"
 unfoldable pub fault : Before → ℕ → ℕ

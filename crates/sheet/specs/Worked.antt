@@ -131,7 +131,7 @@ cases =
 
 -- what the words before an end word tell behind n lifts
 abbrev behind : ℕ → Before
-behind n = record { kind = 3; number = n; from = 0; old = 0; lifts = n }
+behind n = record { kind = 3; number = n; old = 0; lifts = n }
 
 -- "5. End count not the number of lifts, or above 4,096.": behind 4,096 lifts and behind 4,097
 abbrev pub rightEnds : Bool

@@ -190,13 +190,12 @@ pub enum Found {
     Nothing,
 }
 
-// What the words before a word tell: the last one's kind, 0 before the first, the last lift's number, old round and old
-// measure, and how many lifts there are.
+// What the words before a word tell: the last one's kind, 0 before the first, the last lift's number, the word of its old
+// place, and how many lifts there are.
 struct Before {
     kind: u32,
     number: u32,
-    from: usize,
-    old: u64,
+    old: u32,
     lifts: usize,
 }
 
@@ -265,7 +264,8 @@ fn misplaced(word: u32) -> bool
 fn uncounted_newcomer(s: Before, word: u32) -> bool
     ensures { λ r. ⌜ r ≡ uncountedNewcomerOf s word ⌝ }
 {
-    Sheet::kind(word) == Sheet::NEW && (s.from == 0 && Sheet::measure(word) == Sheet::NOT_COUNTED)
+    Sheet::kind(word) == Sheet::NEW
+        && (Sheet::round(s.old) == 0 && Sheet::measure(word) == Sheet::NOT_COUNTED)
 }
 
 // Whether refusal 5 applies to a word.
@@ -280,7 +280,7 @@ fn miscounted(s: Before, word: u32) -> bool
 fn mismarked(s: Before, word: u32) -> bool
     ensures { λ r. ⌜ r ≡ mismarkedOf s word ⌝ }
 {
-    Sheet::kind(word) == Sheet::HELD && (Sheet::payload(word) != 0 || s.old == 0)
+    Sheet::kind(word) == Sheet::HELD && (Sheet::payload(word) != 0 || Sheet::measure(s.old) == 0)
 }
 
 // The refusal that a word at position i meets.
@@ -318,7 +318,6 @@ fn next(s: Before, word: u32) -> Before
         return Before {
             kind,
             number: Sheet::payload(word),
-            from: s.from,
             old: s.old,
             lifts: s.lifts + 1,
         };
@@ -327,15 +326,13 @@ fn next(s: Before, word: u32) -> Before
         return Before {
             kind,
             number: s.number,
-            from: Sheet::round(word),
-            old: Sheet::measure(word),
+            old: word,
             lifts: s.lifts,
         };
     }
     Before {
         kind,
         number: s.number,
-        from: s.from,
         old: s.old,
         lifts: s.lifts,
     }
@@ -349,7 +346,6 @@ fn read_words(sheet: &[u32]) -> Judged
     let mut s = Before {
         kind: 0,
         number: 0,
-        from: 0,
         old: 0,
         lifts: 0,
     };

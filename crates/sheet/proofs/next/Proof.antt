@@ -16,14 +16,8 @@ add-t6 c = search needs
 returns : tie.Need-returns
 returns c = rw (← c .before .before .before .kind .ensures, ← c .before .payload .ensures, c .before .before .if1 .taken)
 
-round-requires : tie.Need-round-requires
-round-requires c κs = search needs
-
-measure-requires : tie.Need-measure-requires
-measure-requires c κs = search needs
-
 returns-2 : tie.Need-returns-2
-returns-2 c = rw (← c .before .before .before .before .kind .ensures, ← c .before .round .ensures, ← c .measure .ensures, c .before .before .if2 .taken)
+returns-2 c = rw (← c .before .before .kind .ensures, c .if2 .taken)
 
 returns-3 : tie.Need-returns-3
 returns-3 c = rw (← c .before .before .kind .ensures, ne-eqb _ _ (c .before .if1 .left), ne-eqb _ _ (c .if2 .left))
@@ -31,12 +25,4 @@ returns-3 c = rw (← c .before .before .kind .ensures, ne-eqb _ _ (c .before .i
 pub next-spec : {M : Type 1} → statement M
 next-spec =
     tie.close
-    (tie.spec
-    kind-requires
-    payload-requires
-    add-t6
-    returns
-    round-requires
-    measure-requires
-    returns-2
-    returns-3)
+    (tie.spec kind-requires payload-requires add-t6 returns returns-2 returns-3)
