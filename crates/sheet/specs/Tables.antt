@@ -7,9 +7,10 @@ use lib.Dec.{eqb, leb, ltb}
 use lib.Seq.{slice}
 use lib.Count.{ones}
 use Rattle.laws.specs.Sum.{totalBy, indicator}
-use Rattle.sheet.specs.Sheet.{mostRounds, largestSum, Lift}
+use Rattle.sheet.specs.Sheet.{mostRounds, largestSum, Place, Lift}
 use Rattle.sheet.specs.Rounds.{placeAt, sends, ofRound}
 use Rattle.sheet.specs.declared.Side.{Side}
+use Rattle.sheet.specs.declared.Side.the-variants.{Old, New}
 use Rattle.sheet.specs.declared.Field.{Field}
 use Rattle.sheet.specs.declared.Field.the-variants.{Number, Round, Measure, Held, Unit}
 use Rattle.sheet.specs.declared.Rule.{Rule}
@@ -25,6 +26,11 @@ tabulate (suc n) f = f 0 ∷ tabulate n (λ i. f (suc i))
 -- a number for each round from 0 up
 abbrev pub table : (ℕ → ℕ) → List ℕ
 table f = tabulate (mostRounds + 1) f
+
+-- a lift's old or new place, as it is written
+abbrev pub writtenAt : Side → Lift → Place
+writtenAt Old l = l .old
+writtenAt New l = l .new
 
 -- a lift's number, round, measure, 1 if it is held, and 1
 abbrev pub fieldOf : Field → Lift → ℕ

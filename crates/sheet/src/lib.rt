@@ -9,7 +9,7 @@ ghost use Rattle.sheet.specs.Sheet.{longest, kind as kindOf, payload as 
 ghost use Rattle.sheet.specs.Reading.{next as nextOf, follows as followsOf, misnumbered as misnumberedOf, isPlace, tooLarge as tooLargeOf, beyond as beyondOf, misplaced as misplacedOf, uncountedNewcomer as uncountedNewcomerOf, miscounted as miscountedOf, mismarked as mismarkedOf, fault, unless, sound, reading, ofWords, Legible};
 ghost use Rattle.sheet.specs.Rounds.{rounds, filledIn as filledInOf, placeAt, inUse};
 ghost use Rattle.sheet.specs.Refusal.{unheld, oversize, unmeasured, crowded, ofRounds, verdict, refusal, told, toldOfWords};
-ghost use Rattle.sheet.specs.Tables.{fieldOf, tallyOf, donorsOf, bitOf, startsOf, ByRound, breaks as breaksOf, first as firstOf};
+ghost use Rattle.sheet.specs.Tables.{writtenAt, fieldOf, tallyOf, donorsOf, bitOf, startsOf, ByRound, breaks as breaksOf, first as firstOf};
 
 // A sheet that fits: how many lifts and how many new rounds it has.
 pub struct Sheet {
@@ -392,14 +392,14 @@ pub fn marks(sheet: &[u32], i: usize) -> usize
     0
 }
 
-// The old or the new round of the lift at position i.
-fn round_at(sheet: &[u32], i: usize, side: Side) -> usize
+// The word of the lift at position i that tells one of its places.
+fn place(sheet: &[u32], i: usize, side: Side) -> u32
     requires { ⌜ i + 3 < length (now sheet) ⌝ }
-    ensures { λ r. ⌜ r ≡ placeAt side (liftOf (drop i (now (sheet .entry)))) .round ⌝ }
+    ensures { λ r. ⌜ placeOf r ≡ writtenAt side (liftOf (drop i (now (sheet .entry)))) ⌝ }
 {
     match side {
-        Side::Old => Sheet::round(sheet[i + 1]),
-        Side::New => Sheet::round(sheet[i + 2]),
+        Side::Old => sheet[i + 1],
+        Side::New => sheet[i + 2],
     }
 }
 
@@ -413,16 +413,13 @@ fn filled_in(old: u64, new: u64) -> u64
     new
 }
 
-// The old measure of the lift at position i, or the new one that counts.
+// The old measure of the lift at position i, or the new one that counts; an old measure filled in is the same.
 fn measure_at(sheet: &[u32], i: usize, side: Side) -> u64
     requires { ⌜ i + 3 < length (now sheet) ⌝ }
     ensures { λ r. ⌜ r ≡ placeAt side (liftOf (drop i (now (sheet .entry)))) .measure ⌝ }
 {
-    let old = Sheet::measure(sheet[i + 1]);
-    match side {
-        Side::Old => old,
-        Side::New => filled_in(old, Sheet::measure(sheet[i + 2])),
-    }
+    let written = Sheet::measure(place(sheet, i, side));
+    filled_in(Sheet::measure(sheet[i + 1]), written)
 }
 
 // A field of the lift at position i.
@@ -432,7 +429,7 @@ pub fn value(sheet: &[u32], i: usize, field: Field) -> u64
 {
     match field {
         Field::Number => Sheet::payload(sheet[i]) as u64,
-        Field::Round(side) => round_at(sheet, i, side) as u64,
+        Field::Round(side) => Sheet::round(place(sheet, i, side)) as u64,
         Field::Measure(side) => measure_at(sheet, i, side),
         Field::Held => marks(sheet, i) as u64,
         Field::Unit => 1,

@@ -1,6 +1,6 @@
 -- `sheet::value` meets its contract: by the cases of the field. Assumes nothing.
 use borrow.Author.Needs.{needs}
-use Rattle.sheet.proofs.Lifts.{number-field, same-field}
+use Rattle.sheet.proofs.Lifts.{number-field, round-field, same-field}
 use Rattle.sheet.proofs.value.Statement.{statement}
 use Rattle.sheet.proofs.value.Tie as tie
 
@@ -22,8 +22,11 @@ cast-result c = search needs
 enum-known-field : tie.Need-enum-known-field
 enum-known-field c = search needs
 
-round-at-requires : tie.Need-round-at-requires
-round-at-requires c κs = search needs
+place-requires : tie.Need-place-requires
+place-requires c κs = search needs
+
+round-requires : tie.Need-round-requires
+round-requires c κs = search needs
 
 enum-known-field-2 : tie.Need-enum-known-field-2
 enum-known-field-2 c = search needs
@@ -44,7 +47,7 @@ returns : tie.Need-returns
 returns c = search number-field
 
 returns-2 : tie.Need-returns-2
-returns-2 c = search same-field
+returns-2 c = search round-field
 
 returns-3 : tie.Need-returns-3
 returns-3 c = search same-field
@@ -65,7 +68,8 @@ value-spec =
     payload-requires
     cast-result
     enum-known-field
-    round-at-requires
+    place-requires
+    round-requires
     enum-known-field-2
     measure-at-requires
     enum-told-2
