@@ -1,16 +1,16 @@
--- The laws of the loop over the words of a sheet: one for each way out of a turn, and two for the end.
+-- The laws of a word's fault, by what it tells, and of the loop over the words of a sheet: one for each way out of a turn, and two for the end.
 use Prim.Native.Nat.{ℕ, zero, suc, _+_, _≤_, _<_}
 use mathlib.Core.Path.{_≡_, refl}
-use mathlib.Core.Bool.{Bool, true, false, cond}
+use mathlib.Core.Bool.{Bool, true, false, cond, _||_, true≢false}
 use mathlib.Core.List.{List}
 use native.Mathlib.Numerals.{add-one}
 use native.Mathlib.Omega.{arith}
 use lib.Dec.{eqb}
 use lib.ListN.{length, getD, drop, drop-of-length-le}
 use lib.Seq.{drop-cons}
-use borrow.Author.Tests.{eq-eqb, ne-eqb}
-use Rattle.sheet.specs.Sheet.{kind, liftKind, endKind}
-use Rattle.sheet.specs.Reading.{next, fault, numbered, Reading, faulty, sound, unless, readFrom, reading}
+use borrow.Author.Tests.{eq-eqb, ne-eqb, eqb-true}
+use Rattle.sheet.specs.Sheet.{kind, liftKind, oldKind, newKind, endKind}
+use Rattle.sheet.specs.Reading.{next, follows, misnumbered, isPlace, misplaced, uncountedNewcomer, miscounted, mismarked, fault, numbered, Reading, faulty, sound, unless, readFrom, reading}
 use Rattle.sheet.specs.Refusal.{toldOfWords}
 use Rattle.sheet.specs.declared.Before.{Before}
 use Rattle.sheet.specs.declared.Refusal.{Refusal}
@@ -26,6 +26,30 @@ andThen sound rest = rest
 unless-then : (n i : ℕ) (rest : Reading) → andThen (unless n i sound) rest ≡ unless n i rest
 unless-then zero i rest = refl
 unless-then (suc n) i rest = refl
+
+-- ---- a word's fault
+
+-- of a word in sequence that tells a place, and of one that tells none
+module _ (s : Before) (w : ℕ) (f : follows (s .kind) (kind w) ≡ true) where
+  pub place-fault : isPlace (kind w) ≡ true → fault s w ≡ cond (misplaced w) 4 (cond (uncountedNewcomer s w) 16 0)
+  unfolding fault
+  place-fault h = go (eqb (kind w) oldKind) refl
+    where
+      go : (t : Bool) → eqb (kind w) oldKind ≡ t → fault s w ≡ cond (misplaced w) 4 (cond (uncountedNewcomer s w) 16 0)
+      go true e = let k = eqb-true (kind w) oldKind e in rw (f, k)
+      go false e = let k = eqb-true (kind w) newKind (rw e at h) in rw (f, k)
+
+  pub other-fault : isPlace (kind w) ≡ false → fault s w ≡ cond (misnumbered s w) 3 (cond (miscounted s w) 5 (cond (mismarked s w) 6 0))
+  unfolding fault
+  other-fault h = go (eqb (kind w) oldKind) refl (eqb (kind w) newKind) refl h
+    where
+      go : (a : Bool) → eqb (kind w) oldKind ≡ a → (b : Bool) → eqb (kind w) newKind ≡ b → (a || b) ≡ false
+          → fault s w ≡ cond (misnumbered s w) 3 (cond (miscounted s w) 5 (cond (mismarked s w) 6 0))
+      go true p b q h = absurd (true≢false h)
+      go false p true q h = absurd (true≢false h)
+      go false p false q h = rw (f, p, q)
+
+-- ---- the loop
 
 -- the loop's invariant: reading on from word i, with s told before it, reads the sheet, and s tells no more lifts than words
 pub record Kept (ws : List ℕ) (s : Before) (i : ℕ) : Type 0 where

@@ -1,6 +1,7 @@
 // The sheet: its words read, checked and refused ("The sheet" and "Refused because of the sheet" of document 01), and what a
 // legible sheet tells of its lifts and rounds.
 ghost use mathlib.Core.Path.{_≡_};
+ghost use mathlib.Core.Bool.{cond};
 ghost use Prim.Native.Nat.{_+_, _*_, _^_, _≤_, _<_};
 ghost use lib.Dec.{ltb};
 ghost use lib.ListN.{length, getD, drop};
@@ -283,21 +284,32 @@ fn mismarked(s: Before, word: u32) -> bool
     Sheet::kind(word) == Sheet::HELD && (Sheet::payload(word) != 0 || Sheet::measure(s.old) == 0)
 }
 
-// The refusal that a word at position i meets.
-fn judge(s: Before, word: u32, i: usize) -> Judged
-    ensures { λ r. ⌜ toldOfWords r ≡ unless (fault s word) i sound ⌝ }
+// The refusal that a word at position i meets, if it is one of places.
+fn judge_place(s: Before, word: u32, i: usize) -> Judged
+    ensures { λ r. ⌜ toldOfWords r ≡ unless (cond (misplacedOf word) 4 (cond (uncountedNewcomerOf s word) 16 0)) i sound ⌝ }
 {
-    if !follows(s.kind, Sheet::kind(word)) {
-        return Judged::Faulty(Refusal::Sequence(i));
-    }
-    if misnumbered(s, word) {
-        return Judged::Faulty(Refusal::Number(i));
-    }
     if misplaced(word) {
         return Judged::Faulty(Refusal::Place(i));
     }
     if uncounted_newcomer(s, word) {
         return Judged::Faulty(Refusal::Uncounted(i));
+    }
+    Judged::Sound
+}
+
+// The refusal that a word at position i meets; a place meets no others than those of places.
+fn judge(s: Before, word: u32, i: usize) -> Judged
+    ensures { λ r. ⌜ toldOfWords r ≡ unless (fault s word) i sound ⌝ }
+{
+    let kind = Sheet::kind(word);
+    if !follows(s.kind, kind) {
+        return Judged::Faulty(Refusal::Sequence(i));
+    }
+    if is_place(kind) {
+        return judge_place(s, word, i);
+    }
+    if misnumbered(s, word) {
+        return Judged::Faulty(Refusal::Number(i));
     }
     if miscounted(s, word) {
         return Judged::Faulty(Refusal::Count(i));
