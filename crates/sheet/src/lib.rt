@@ -1,5 +1,5 @@
-// The sheet: its words read, checked and refused ("The sheet" and "Refused because of the sheet" of document 01), and what a
-// legible sheet tells of its lifts and rounds.
+// The sheet: its words read, checked and refused ("The sheet" and "Refused because of the sheet" of document 01, with Card 2
+// of document 02), and what a legible sheet tells of its lifts and rounds.
 ghost use mathlib.Core.Path.{_≡_};
 ghost use mathlib.Core.Bool.{cond};
 ghost use Prim.Native.Nat.{_+_, _*_, _^_, _≤_, _<_};
