@@ -10,7 +10,7 @@ use lib.ListN.{drop}
 use lib.Dec.{ltb}
 use borrow.Author.Tests.{ltb-true}
 use Rattle.laws.specs.Sum.{over}
-use Rattle.laws.specs.Plan.{Plan, done, draw, Path, drew as step, paths}
+use Rattle.laws.specs.Plan.{Plan, done, draw, Every, Path, drew as step, paths}
 use Rattle.draw.specs.Draw.{K, drawFrom, drawAt}
 use Rattle.draw.specs.Run.{Run, finished, short, drew, follow, run, FollowsAPath}
 use Rattle.draw.specs.declared.Drawn.{Drawn}
@@ -71,6 +71,21 @@ followed {A} m (draw b k) ws vs at next x e = go (drawAt m ws at b) refl e (λ v
         → ((v n : ℕ) (us : List ℕ) → run m ws n (k v) ≡ finished us x next → (o : ℕ) × List·Memᴰ {A = Path A} (record { values = us; bounds = o; result = x }) (paths (k v)))
         → (o : ℕ) × List·Memᴰ {A = Path A} (record { values = vs; bounds = o; result = x }) (over _++_ [] b (λ v. map (step b v) (paths (k v))))
     go (Value v n) l q h = reached v (run m ws n (k v)) (value-below m ws at b l) q (h v n)
+    go Short l q h = let z : _≡_ {A = ℕ} 0 1 = cc in absurd (omega arith)
+
+-- what every result of a plan has, its run's result has
+pub run-every : {A : Type 0} (P : A → Type 0) (m : ℕ) (p : Plan A) → Every P p → (ws : List ℕ) (at : ℕ) {vs : List ℕ} {next : ℕ} {a : A} → run m ws at p ≡ finished vs a next → P a
+unfolding run Every
+run-every P m (done x) d ws at {vs} {next} {a} e = let z : x ≡ a = cc in rw z at d
+run-every {A} P m (draw b k) d ws at {vs} {next} {a} e = go (drawAt m ws at b) refl e (λ v l n us. run-every P m (k v) (d .1 v l) ws n {vs = us})
+  where
+    reached : (v : ℕ) (r : Run A) → drew v r ≡ finished vs a next → ((us : List ℕ) → r ≡ finished us a next → P a) → P a
+    reached v (finished us y n) q h = h us (cc)
+    reached v short q h = let z : _≡_ {A = ℕ} 0 1 = cc in absurd (omega arith)
+
+    go : (x : Drawn) → drawAt m ws at b ≡ x → follow x (λ v n. run m ws n (k v)) ≡ finished vs a next
+        → ((v : ℕ) → v < b → (n : ℕ) (us : List ℕ) → run m ws n (k v) ≡ finished us a next → P a) → P a
+    go (Value v n) l q h = reached v (run m ws n (k v)) q (h v (value-below m ws at b l) n)
     go Short l q h = let z : _≡_ {A = ℕ} 0 1 = cc in absurd (omega arith)
 
 -- ---- a path's values fix its result

@@ -80,6 +80,16 @@ pick-lt (w ∷ ws) q h = go (ltb q w) refl (pick-lt ws (q - w))
     go true e r = omega arith
     go false e r = let l = ltb-false q w e in omega (arith, r (omega arith))
 
+-- the interval in which a position falls is not empty
+pub pick-some : (ws : List ℕ) (q : ℕ) → q < total ws → 0 < getD ws (pick ws q) 0
+unfolding total pick
+pick-some [] q h = absurd (omega arith)
+pick-some (w ∷ ws) q h = go (ltb q w) refl (pick-some ws (q - w))
+  where
+    go : (b : Bool) → ltb q w ≡ b → (q - w < total ws → 0 < getD ws (pick ws (q - w)) 0) → 0 < getD (w ∷ ws) (cond b 0 (suc (pick ws (q - w)))) 0
+    go true e r = omega (arith, ltb-true q w e)
+    go false e r = r (omega (arith, ltb-false q w e))
+
 pub intervals : (ws : List ℕ) → Intervals ws
 intervals ws = record {
   falls = falls ws;

@@ -7,12 +7,14 @@ use native.Mathlib.Nat.{mul-pos, min-eq-left, sub-eq-zero-of-le, zero-mul, add-z
 use native.Mathlib.Omega.{arith}
 use lib.ListN.{length, getD, List·getD-map, length-map}
 use lib.Dec.{leb, ltb, eqb}
-use borrow.Author.Tests.{leb-true, leb-false, eq-eqb}
+use borrow.Author.Tests.{leb-true, leb-false, ltb-true, eq-eqb}
 use Rattle.laws.specs.Sum.{Σ, total, indicator}
 use Rattle.laws.specs.Fraction.{_//_, _⊗_, _≈_, sum}
+use Rattle.laws.specs.Interval.{pick}
 use Rattle.laws.specs.Plan.{Plan, done, draw, Every, Drawable, mass}
 use Rattle.laws.proofs.Tests.{eqb-comm}
 use Rattle.laws.proofs.Sums.{over-ext, Σ-add, Σ-mul, Σ-step, Σ-one, Σ-map, map-le}
+use Rattle.laws.proofs.Intervals.{pick-some}
 use Rattle.laws.proofs.Fractions.{≈-refl, ⊗-≈, ⊗-part, cancel, sum-same}
 use Rattle.laws.proofs.Masses.{mass-even, mass-hits}
 use Rattle.round.specs.Round.{Weight, weightAt, growth, G}
@@ -115,17 +117,19 @@ own ws H =
     over-ext _+_ 0 (length ws) {g = λ i. smaller (weightAt ws i) * H} (λ i _. rw (eq-eqb i i refl, either (weightAt ws i .old) (weightAt ws i .new)) (omega arith))
     ∙ Σ-mul (length ws) (λ i. smaller (weightAt ws i)) H ∙ ap (λ t. t * H) (Σ-map smaller none ws)
 
-every-cond : {A : Type 0} (P : A → Type 0) (b : Bool) (p q : Plan A) → Every P p → Every P q → Every P (cond b p q)
-every-cond P true p q f g = f
-every-cond P false p q f g = g
-
-every-stayOr : {A : Type 0} (P : A → Type 0) (w : Weight) (stay move : Plan A) → Every P stay → (w .new < w .old → Every P move) → Every P (stayOr w stay move)
+-- a preliminary unit stays where it doesn't shrink, or where it keeps some weight; and moves only where it shrinks
+every-stayOr : {A : Type 0} (P : A → Type 0) (w : Weight) (stay move : Plan A) → (w .old ≤ w .new → Every P stay) → (0 < w .new → Every P stay)
+    → (w .new < w .old → Every P move) → Every P (stayOr w stay move)
 unfolding Every stayOr
-every-stayOr P w stay move f g = go (leb (w .old) (w .new)) refl
+every-stayOr P w stay move f g h = go (leb (w .old) (w .new)) refl
   where
+    drawn : (r : ℕ) (b : Bool) → ltb r (w .new) ≡ b → w .new < w .old → Every P (cond b stay move)
+    drawn r true e l = g (omega (arith, ltb-true r (w .new) e))
+    drawn r false e l = h l
+
     go : (b : Bool) → leb (w .old) (w .new) ≡ b → Every P (cond b stay (draw (w .old) (λ r. cond (ltb r (w .new)) stay move)))
-    go true e = f
-    go false e = let l = leb-false (w .old) (w .new) e in (omega arith, λ r _. every-cond P (ltb r (w .new)) stay move f (g l))
+    go true e = f (leb-true (w .old) (w .new) e)
+    go false e = let l = leb-false (w .old) (w .new) e in (omega arith, λ r _. drawn r (ltb r (w .new)) refl l)
 
 module _ (ws : List Weight) (N : ℕ) (p : 0 < N) (e : total (map (λ w. w .old) ws) ≡ N) (f : total (map (λ w. w .new) ws) ≡ N) where
   common : (i : ℕ) (H : ℕ) → i < length ws → (0 < G ws → G ws ≡ H) → weightAt ws i .new < weightAt ws i .old → G ws ≡ H
@@ -134,7 +138,18 @@ module _ (ws : List Weight) (N : ℕ) (p : 0 < N) (e : total (map (λ w. w .old)
   -- every unit that may be preliminary has its update
   pub drawable : (i : ℕ) → i < length ws → Drawable (keyfitz ws i)
   unfolding Every keyfitz replacement
-  drawable i l = every-stayOr (λ _. Unit {0}) (weightAt ws i) (done (selection i false)) _ tt (λ m. (dropped-G ws i (e ∙ sym f) l m, λ _ _. tt))
+  drawable i l =
+      every-stayOr (λ _. Unit {0}) (weightAt ws i) (done (selection i false)) _ (λ _. tt) (λ _. tt) (λ m. (dropped-G ws i (e ∙ sym f) l m, λ _ _. tt))
+
+  -- a unit of old weight above 0 makes way for none of new weight 0
+  pub arrival : (i : ℕ) → 0 < weightAt ws i .old → i < length ws → Every (λ s. 0 < weightAt ws (s .place) .new) (keyfitz ws i)
+  unfolding Every keyfitz replacement G
+  arrival i o l =
+      every-stayOr (λ s. 0 < weightAt ws (s .place) .new) (weightAt ws i) (done (selection i false)) _ (λ m. omega arith) (λ m. m)
+      (λ m. (dropped-G ws i (e ∙ sym f) l m, λ q k. grown (pick (map growth ws) q) (pick-some (map growth ws) q k)))
+    where
+      grown : (j : ℕ) → 0 < getD (map growth ws) j 0 → 0 < weightAt ws j .new
+      grown j h = let g : getD (map growth ws) j 0 ≡ growth (weightAt ws j) = List·getD-map growth ws j none in omega arith
 
   -- each unit has its new weight
   pub updated : (j : ℕ) → j < length ws → sum (length ws) (λ i. weightAt ws i .old // N ⊗ mass (chooses j) (keyfitz ws i)) ≈ weightAt ws j .new // N

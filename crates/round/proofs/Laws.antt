@@ -1,24 +1,28 @@
 -- The laws of a round's weights and draws, put together.
-use Prim.Native.Nat.{ℕ, zero, suc}
+use Prim.Native.Nat.{ℕ, zero, suc, _*_, _<_}
 use mathlib.Core.Path.{sym, _∙_}
 use mathlib.Core.Bool.{Bool, true, false, cond}
-use mathlib.Core.List.{List}
+use mathlib.Core.List.{List, [], _∷_, map}
 use native.Mathlib.Omega.{arith}
-use lib.ListN.{length}
+use lib.ListN.{length, List·getD-map}
 use lib.Dec.{leb, ltb}
 use Rattle.laws.proofs.Sums.{map-le}
-use Rattle.laws.specs.Plan.{Plan, done, draw, after, Drawable, Within}
-use Rattle.round.specs.Round.{Weight, weights, weightAt, Fitting}
+use Rattle.laws.specs.Interval.{pick}
+use Rattle.laws.specs.Plan.{Plan, done, draw, after, Every, Drawable, Within}
+use Rattle.laws.proofs.Intervals.{pick-some}
+use Rattle.laws.proofs.Fractions.{pos-left}
+use Rattle.laws.proofs.Masses.{every-map}
+use Rattle.round.specs.Round.{liftAt, S, D, Weight, oldWeight, newWeight, weights, weightAt, Fitting}
 use Rattle.round.specs.Choice.{Preliminary, noUnit, unitAt, fresh, firstOdds, preliminary, stayOr, replacement, keyfitz, select, plan}
 use Rattle.round.specs.Slices.{Bounded, Stands}
-use Rattle.round.specs.Law.{Small, LawsTheorem}
+use Rattle.round.specs.Law.{Small, Weighty, LawsTheorem}
 use Rattle.round.specs.declared.Donors.{Donors}
 use Rattle.round.specs.declared.Donors.the-variants.{None, One, Two}
 use Rattle.round.specs.declared.Held.{Held}
 use Rattle.round.specs.declared.Held.the-variants.{Neither, Single, Both}
 use Rattle.round.specs.declared.Lift.{Lift}
 use Rattle.round.proofs.Weights.{old-sum, new-sum, losses, dropped-G, G-le, D-bound, weight-bound, one-positive, two-positive}
-use Rattle.round.proofs.Keyfitz.{none}
+use Rattle.round.proofs.Keyfitz.{none, arrival}
 use Rattle.round.proofs.Shares.{length-weights, every-fresh, every-plan}
 
 -- ---- at most three draws
@@ -68,6 +72,47 @@ drawable (Two T₁ T₂) ls f Neither s = every-fresh ls (f .positive)
 drawable (Two T₁ T₂) ls f (Single i) s = every-plan (Two T₁ T₂) ls (f .positive) (two-positive (f .donate .0) (f .donate .1)) (Single i) s
 drawable (Two T₁ T₂) ls f (Both i j) s = every-plan (Two T₁ T₂) ls (f .positive) (two-positive (f .donate .0) (f .donate .1)) (Both i j) s
 
+-- ---- a lift of new measure 0 is never chosen
+
+new-some : (ds : Donors) (ls : List Lift) (j : ℕ) → 0 < weightAt (weights ds ls) j .new → 0 < liftAt ls j .new
+unfolding weights newWeight
+new-some ds ls j h = go ls j h
+  where
+    go : (vs : List Lift) (j : ℕ) → 0 < weightAt (map (λ l. record { old = oldWeight ds ls l; new = l .new * D ds ls }) vs) j .new → 0 < liftAt vs j .new
+    go [] j h = absurd (omega arith)
+    go (v ∷ vs) zero h = pos-left (v .new) (D ds ls) h
+    go (v ∷ vs) (suc j) h = go vs j h
+
+-- a weight above 0 stands at a place of the round
+weight-in : (ws : List Weight) (i : ℕ) → 0 < weightAt ws i .old → i < length ws
+weight-in [] i h = absurd (omega arith)
+weight-in (w ∷ ws) zero h = omega arith
+weight-in (w ∷ ws) (suc i) h = omega (arith, weight-in ws i h)
+
+module _ (ds : Donors) (ls : List Lift) (p : 0 < S ls) where
+  -- with such a weight, D × S is above 0
+  whole : (i : ℕ) → 0 < weightAt (weights ds ls) i .old → 0 < D ds ls * S ls
+  whole i h = omega (arith, map-le (λ w. w .old) none (weights ds ls) i (weight-in (weights ds ls) i h), old-sum ds ls)
+
+  chosen-fresh : Every (λ s. 0 < liftAt ls (s .place) .new) (fresh ls)
+  unfolding Every fresh S
+  chosen-fresh = (p, λ q l. let e = List·getD-map (λ x. x .new) ls (pick (map (λ x. x .new) ls) q) (record { old = 0; donor = 0; new = 0 }) in omega (arith, pick-some (map (λ x. x .new) ls) q l))
+
+  chosen-update : (i : ℕ) → 0 < weightAt (weights ds ls) i .old → Every (λ s. 0 < liftAt ls (s .place) .new) (keyfitz (weights ds ls) i)
+  chosen-update i h =
+      every-map (λ s. new-some ds ls (s .place)) (keyfitz (weights ds ls) i)
+      (arrival (weights ds ls) (D ds ls * S ls) (whole i h) (old-sum ds ls) (new-sum ds ls) i h (weight-in (weights ds ls) i h))
+
+  chosen : (h : Held) → Weighty ds ls h → Every (λ s. 0 < liftAt ls (s .place) .new) (plan ds ls h)
+  unfolding Every plan preliminary after select
+  chosen Neither w = chosen-fresh
+  chosen (Single i) w = chosen-update i w
+  chosen (Both i j) w = (pos-left (D ds ls) (S ls) (whole i (w .0)), λ v _. go (ltb v (firstOdds ds ls)))
+    where
+      go : (b : Bool) → Every (λ s. 0 < liftAt ls (s .place) .new) (keyfitz (weights ds ls) (cond b i j))
+      go true = chosen-update i (w .0)
+      go false = chosen-update j (w .1)
+
 small : (ds : Donors) (ls : List Lift) → Fitting ds ls → Bounded ds ls → Small ds ls
 small ds ls f b =
     let w = weight-bound ds ls f b in let ws = weights ds ls in
@@ -89,5 +134,6 @@ lawful ds ls =
       grows = λ i l. dropped-G (weights ds ls) i e (rw (length-weights ds ls) l);
       three = three ds ls;
       drawable = drawable ds ls;
+      chosen = chosen ds ls;
       fits = small ds ls;
     }

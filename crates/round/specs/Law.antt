@@ -4,12 +4,13 @@ use mathlib.Core.Path.{_≡_}
 use mathlib.Core.List.{List, map}
 use lib.ListN.{length}
 use Rattle.laws.specs.Sum.{total}
-use Rattle.laws.specs.Plan.{Drawable, Within}
-use Rattle.round.specs.Round.{S, D, weights, weightAt, G, Fitting}
+use Rattle.laws.specs.Plan.{Every, Drawable, Within}
+use Rattle.round.specs.Round.{liftAt, S, D, weights, weightAt, G, Fitting}
 use Rattle.round.specs.Choice.{plan}
 use Rattle.round.specs.Slices.{Bounded, Stands}
 use Rattle.round.specs.declared.Donors.{Donors}
 use Rattle.round.specs.declared.Held.{Held}
+use Rattle.round.specs.declared.Held.the-variants.{Neither, Single, Both}
 use Rattle.round.specs.declared.Lift.{Lift}
 
 -- the sums and products of a round within the sheet's bounds
@@ -20,6 +21,12 @@ pub record Small (ds : Donors) (ls : List Lift) : Type 0 where
   pub growths : G (weights ds ls) ≤ 2 ^ 61
   pub old : (i : ℕ) → i < length ls → weightAt (weights ds ls) i .old ≤ 2 ^ 61
   pub new : (i : ℕ) → i < length ls → weightAt (weights ds ls) i .new ≤ 2 ^ 61
+
+-- the lifts held here have an old weight above 0
+abbrev pub Weighty : Donors → List Lift → Held → Type 0
+Weighty ds ls Neither = Unit {0}
+Weighty ds ls (Single i) = 0 < weightAt (weights ds ls) i .old
+Weighty ds ls (Both i j) = (0 < weightAt (weights ds ls) i .old) × (0 < weightAt (weights ds ls) j .old)
 
 pub record Lawful (ds : Donors) (ls : List Lift) : Type 0 where
   -- "Both weights sum to D × S"
@@ -33,6 +40,8 @@ pub record Lawful (ds : Donors) (ls : List Lift) : Type 0 where
   pub three : (h : Held) → Within 3 (plan ds ls h)
   -- every draw has a value
   pub drawable : Fitting ds ls → (h : Held) → Stands ds h (length ls) → Drawable (plan ds ls h)
+  -- a lift of new measure 0 is never chosen, neither kept nor taken
+  pub chosen : 0 < S ls → (h : Held) → Weighty ds ls h → Every (λ s. 0 < liftAt ls (s .place) .new) (plan ds ls h)
   -- within the sheet's bounds everything fits 64 bits
   pub fits : Fitting ds ls → Bounded ds ls → Small ds ls
 
