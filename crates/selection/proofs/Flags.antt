@@ -101,7 +101,7 @@ among ls h i (d ∷ e ∷ []) few m =
 among ls h i (d ∷ e ∷ f ∷ ds) few m = absurd (omega (arith, leb-false 3 (length (d ∷ e ∷ f ∷ ds)) few))
 
 -- what holds of the lifts of new round r
-ofRound-all : (P : Lift → Type 0) (r : ℕ) (ls : List Lift) → All (λ l. l .new .round ≡ r → P l) ls → All P (ofRound r ls)
+pub ofRound-all : (P : Lift → Type 0) (r : ℕ) (ls : List Lift) → All (λ l. l .new .round ≡ r → P l) ls → All P (ofRound r ls)
 unfolding ofRound
 ofRound-all P r [] h = all-none P
 ofRound-all P r (l ∷ ls) h =
@@ -118,7 +118,7 @@ ofRound-held r t (l ∷ ls) = go (eqb (l .new .round) r) (ofRound-held r t ls)
     go false h = omega arith
 
 -- a lift of old measure above 0 makes its old round a donor
-sends-has : (t r : ℕ) {l : Lift} {ls : List Lift} → List·Memᴰ l ls → comes t r l ≡ true → sends t r ls ≡ true
+pub sends-has : (t r : ℕ) {l : Lift} {ls : List Lift} → List·Memᴰ l ls → comes t r l ≡ true → sends t r ls ≡ true
 unfolding sends
 sends-has t r (List·Memᴰ·head {xs = ls} e) c = rw (← e, c)
 sends-has t r (List·Memᴰ·tail {x = x} m) c = rw (sends-has t r m c) (or-true (comes t r x))

@@ -1,21 +1,23 @@
--- Lifts that a sheet can tell: each is proper, at most one is held in each old round where none is unheld, and so their sheet is not too
--- long.
+-- Lifts that a sheet can tell: each is proper, one is held in each old round in use where none is unheld, and so many words has their
+-- sheet.
 use Prim.Native.Nat.{ℕ, zero, suc, _+_, _*_, _≤_, _<_}
-use mathlib.Core.Path.{_≡_, refl}
+use mathlib.Core.Path.{_≡_, refl, sym, ap, ap₂, _∙_}
 use mathlib.Core.Bool.{Bool, true, false, cond, _&&_, not, true≢false}
 use mathlib.Core.List.{List, [], _∷_, _++_, map}
+use native.Mathlib.Nat.{zero-add}
 use native.Mathlib.Omega.{arith}
 use lib.Dec.{eqb, ltb, leb}
 use lib.ListN.{length}
 use borrow.Author.Tests.{eqb-true, leb-true, leb-false, ltb-false}
-use Rattle.laws.specs.Sum.{over, Σ, total, indicator}
+use Rattle.laws.specs.Sum.{over, total, indicator}
 use Rattle.laws.proofs.Lists.{All, all-none, all-more, all-getD}
-use Rattle.laws.proofs.Sums.{indicator-le, Σ-totalBy, Σ-mono, Σ-const, totalBy-none, totalBy-le}
+use Rattle.laws.proofs.Sums.{indicator-le, over-ext, Σ-totalBy, totalBy-none, totalBy-le}
 use Rattle.sheet.specs.Sheet.{mostRounds, longest, Lift, written, sheetOf, word, heldKind, endKind}
-use Rattle.sheet.specs.Rounds.{named, heldIn as heldCount}
+use Rattle.sheet.specs.Rounds.{named, inUse, heldIn as heldCount}
 use Rattle.sheet.specs.Refusal.{unheld}
 use Rattle.sheet.specs.Law.{Proper, Listed, Nowhere, Fit}
 use Rattle.sheet.specs.declared.Side.the-variants.{Old}
+use Rattle.sheet.proofs.Those.{those-count, those-few}
 use Rattle.selection.specs.Choice.{nobody}
 
 -- ---- lifts by their old rounds
@@ -56,20 +58,15 @@ length-written (l ∷ ls) ws = go (l .held) (length-written ls ws)
     go true e = omega arith
     go false e = omega arith
 
--- a round that is not unheld has at most one held lift
-held-le : (ls : List Lift) (r : ℕ) → unheld ls r ≡ false → heldCount r ls ≤ 1
-held-le ls r h =
+-- a round that is not unheld has one held lift if it is in use, else none
+held-exactly : (ls : List Lift) (r : ℕ) → unheld ls r ≡ false → heldCount r ls ≡ indicator (ltb 0 (named Old r ls))
+held-exactly ls r h =
     go (ltb 0 (named Old r ls)) refl (eqb (heldCount r ls) 1) refl h (totalBy-le oldRound r (λ l. indicator (l .held)) (λ _. 1) (λ l. indicator-le (l .held)) ls)
   where
-    go : (x : Bool) → ltb 0 (named Old r ls) ≡ x → (y : Bool) → eqb (heldCount r ls) 1 ≡ y → (x && not y) ≡ false → heldCount r ls ≤ named Old r ls → heldCount r ls ≤ 1
-    go x e true f q l = omega (arith, eqb-true (heldCount r ls) 1 f)
+    go : (x : Bool) → ltb 0 (named Old r ls) ≡ x → (y : Bool) → eqb (heldCount r ls) 1 ≡ y → (x && not y) ≡ false → heldCount r ls ≤ named Old r ls → heldCount r ls ≡ indicator x
+    go true e true f q l = eqb-true (heldCount r ls) 1 f
     go true e false f q l = absurd (true≢false q)
-    go false e false f q l = omega (arith, ltb-false 0 (named Old r ls) e)
-
--- sums of nothing and of at most 1 each
-Σ-le : (n : ℕ) (f : ℕ → ℕ) → f 0 ≡ 0 → ((i : ℕ) → i < n → f (suc i) ≤ 1) → Σ (suc n) f ≤ n
-unfolding over
-Σ-le n f e h = omega (arith, Σ-mono n {f = λ i. f (suc i)} {g = λ _. 1} h, Σ-const n 1)
+    go false e y f q l = omega (arith, ltb-false 0 (named Old r ls) e)
 
 module _ (ls : List Lift) (d : Listed 0 ls) where
   -- a lift of no old round is not held
@@ -86,21 +83,27 @@ module _ (ls : List Lift) (d : Listed 0 ls) where
     held-one t = go (leb 1 t) refl (leb t mostRounds) refl
       where
         go : (x : Bool) → leb 1 t ≡ x → (y : Bool) → leb t mostRounds ≡ y → heldCount t ls ≤ 1
-        go true e true f = held-le ls t (h t (leb-true 1 t e) (leb-true t mostRounds f))
+        go true e true f = omega (arith, held-exactly ls t (h t (leb-true 1 t e) (leb-true t mostRounds f)), indicator-le (ltb 0 (named Old t ls)))
         go true e false f = omega (arith, held-nowhere t (λ _ l. omega (arith, leb-false t mostRounds f)))
         go false e y f = omega (arith, held-nowhere t (λ l _. omega (arith, leb-false 1 t e)))
 
-    -- no more lifts are held than there are rounds
-    held-few : total (map (λ l. indicator (l .held)) ls) ≤ mostRounds
-    held-few =
-        omega (
-          arith,
-          Σ-le mostRounds (λ t. heldCount t ls) (held-nowhere 0 (λ l _. omega arith)) (λ i _. held-one (suc i)),
-          Σ-totalBy oldRound (λ l. indicator (l .held)) nobody (suc mostRounds) ls
-              (λ i _. all-getD (λ l. l .old .round < suc mostRounds) (omega arith) ls (λ l m. let p = proper 0 ls d l m in omega (arith, p .old .round)) i),
-        )
+    -- as many lifts are held as old rounds are in use
+    held-total : total (map (λ l. indicator (l .held)) ls) ≡ length (inUse Old ls)
+    unfolding over
+    held-total =
+        sym (Σ-totalBy oldRound (λ l. indicator (l .held)) nobody (suc mostRounds) ls
+        (λ i _. all-getD (λ l. l .old .round < suc mostRounds) (omega arith) ls (λ l m. let p = proper 0 ls d l m in omega (arith, p .old .round)) i))
+        ∙ ap₂ _+_ (held-nowhere 0 (λ l _. omega arith))
+        (over-ext _+_ 0 mostRounds {g = λ t. indicator (ltb 0 (named Old (1 + t) ls))}
+        (λ i l.
+        let e : suc i ≡ 1 + i = omega arith in
+        held-exactly ls (suc i) (h (suc i) (omega arith) (omega arith)) ∙ ap (λ t. indicator (ltb 0 (named Old t ls))) e))
+        ∙ zero-add _ ∙ sym (those-count (λ t. ltb 0 (named Old t ls)) 1 mostRounds)
 
--- and the sheet of lifts that fit is not too long
+-- so a sheet that fits has three words for each lift, one for each old round, and the end word
+pub sheet-length : {ls : List Lift} → Fit ls → length (sheetOf ls) ≡ 3 * length ls + length (inUse Old ls) + 1
+sheet-length {ls} f = length-written ls (word endKind (length ls) ∷ []) ∙ ap (λ n. 3 * length ls + n + 1) (held-total ls (f .listable .listed) (f .rounds .held))
+
+-- and is not too long
 pub sheet-short : {ls : List Lift} → Fit ls → length (sheetOf ls) ≤ longest
-sheet-short {ls} f =
-    omega (arith, length-written ls (word endKind (length ls) ∷ []), held-few ls (f .listable .listed) (f .rounds .held), f .listable .few)
+sheet-short {ls} f = omega (arith, sheet-length f, those-few (λ t. ltb 0 (named Old t ls)) 1 mostRounds, f .listable .few)

@@ -11,5 +11,6 @@ pub mod Weighing
 pub mod Replies
 pub mod Steps
 pub mod Following
+pub mod Chosen
 pub mod Fair
 pub mod Worked

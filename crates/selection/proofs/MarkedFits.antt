@@ -12,8 +12,8 @@ use Rattle.laws.proofs.Lists.{All}
 use Rattle.round.specs.Choice.{isHeld}
 use Rattle.sheet.specs.Sheet.{mostRounds, Lift, lifts, sheetOf}
 use Rattle.sheet.specs.Rounds.{named, inUse, donors, heldIn as heldCount}
-use Rattle.sheet.specs.Refusal.{fits, unheld, verdict}
-use Rattle.sheet.specs.Law.{Listed, Fit}
+use Rattle.sheet.specs.Refusal.{fits, unheld, oversize, unmeasured, crowded, verdict}
+use Rattle.sheet.specs.Law.{Listed, Listable, Nowhere, Fit}
 use Rattle.sheet.specs.declared.Side.the-variants.{Old, New}
 use Rattle.sheet.proofs.Those.{those-has, those-once}
 use Rattle.sheet.proofs.Trips.{written-theorem}
@@ -45,10 +45,18 @@ listed-marked m n (l ∷ ls) h (p, d) = (
 
 -- ---- they and their sheet fit
 
-module _ (ls : List Lift) (f : Fit ls) (m : List Lift) (i : List·Memᴰ m (selections ls)) where
-  chosen : Selected ls (inUse Old ls) m
-  chosen = selected (inUse Old ls) ls m i
+-- lifts that fit, but for their held marks
+pub record Unmarked (ls : List Lift) : Type 0 where
+  pub listable : Listable ls
+  pub old : Nowhere (oversize Old ls)
+  pub new : Nowhere (oversize New ls)
+  pub measured : Nowhere (unmeasured ls)
+  pub donors : Nowhere (crowded ls)
 
+unmarked : {ls : List Lift} → Fit ls → Unmarked ls
+unmarked f = record { listable = f .listable; old = f .rounds .old; new = f .rounds .new; measured = f .rounds .measured; donors = f .rounds .donors }
+
+module _ {ls : List Lift} (f : Unmarked ls) {m : List Lift} (chosen : Selected ls (inUse Old ls) m) where
   -- one lift is held in each old round in use
   held-marks : (r : ℕ) → 1 ≤ r → r ≤ mostRounds → unheld (marked m ls) r ≡ false
   held-marks r l h = rw (named-marked m Old r ls, held-marked m r ls) (go (ltb 0 (named Old r ls)) refl)
@@ -61,7 +69,7 @@ module _ (ls : List Lift) (f : Fit ls) (m : List Lift) (i : List·Memᴰ m (sele
       go false e = refl
 
   -- so marked the lifts fit
-  fit-marked : Fit (marked m ls)
+  pub fit-marked : Fit (marked m ls)
   fit-marked =
       record {
         listable = record {
@@ -70,22 +78,26 @@ module _ (ls : List Lift) (f : Fit ls) (m : List Lift) (i : List·Memᴰ m (sele
         };
         rounds = record {
           held = held-marks;
-          old = λ r l h. rw (sumOf-marked m Old r ls) (f .rounds .old r l h);
-          new = λ r l h. rw (sumOf-marked m New r ls) (f .rounds .new r l h);
-          measured = λ r l h. rw (named-marked m New r ls, sumOf-marked m New r ls) (f .rounds .measured r l h);
-          donors = λ r l h. rw (donors-marked m r ls) (f .rounds .donors r l h);
+          old = λ r l h. rw (sumOf-marked m Old r ls) (f .old r l h);
+          new = λ r l h. rw (sumOf-marked m New r ls) (f .new r l h);
+          measured = λ r l h. rw (named-marked m New r ls, sumOf-marked m New r ls) (f .measured r l h);
+          donors = λ r l h. rw (donors-marked m r ls) (f .donors r l h);
         };
       }
 
+module _ (ls : List Lift) (f : Fit ls) (m : List Lift) (i : List·Memᴰ m (selections ls)) where
+  fit : Fit (marked m ls)
+  fit = fit-marked (unmarked f) (selected (inUse Old ls) ls m i)
+
   pub flags : (r : ℕ) → 1 ≤ r → r ≤ mostRounds → (i : ℕ) → liftAt r (marked m ls) i .held ≡ isHeld (heldIn r (marked m ls)) i
-  flags = flagged (marked m ls) fit-marked
+  flags = flagged (marked m ls) fit
 
   pub back : lifts (sheetOf (marked m ls)) ≡ marked m ls
-  back = written-theorem (marked m ls) (fit-marked .listable) .back
+  back = written-theorem (marked m ls) (fit .listable) .back
 
   -- and so does their sheet
   pub marked-fits : verdict (sheetOf (marked m ls)) ≡ fits (length ls) (length (inUse New ls))
   marked-fits =
-      decided (sheetOf (marked m ls)) .passes (fits-sheet fit-marked (sheet-short fit-marked))
+      decided (sheetOf (marked m ls)) .passes (fits-sheet fit (sheet-short fit))
       ∙ ap (λ us. fits (length us) (length (inUse New us))) back
       ∙ ap₂ fits (length-marked m ls) (ap length (inUse-marked m New ls))

@@ -18,7 +18,7 @@ use Rattle.selection.proofs.Held.{oldRound, proper}
 -- ---- lifts of one number
 
 -- a number tells the lift
-same : {a : Lift} {ls : List Lift} → List·Memᴰ a ls → (n : ℕ) → Listed n ls → All (λ l. a .number ≡ l .number → a ≡ l) ls
+pub same : {a : Lift} {ls : List Lift} → List·Memᴰ a ls → (n : ℕ) → Listed n ls → All (λ l. a .number ≡ l .number → a ≡ l) ls
 unfolding Listed
 same {a} (List·Memᴰ·head {x = x} {xs = ls} e) n d =
     all-more (λ l. a .number ≡ l .number → a ≡ l) (λ _. e) (λ l m q. absurd (omega (arith, proper (x .number) ls (d .1) l m .rises, ap (λ y. y .number) e)))

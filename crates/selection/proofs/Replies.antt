@@ -42,6 +42,6 @@ ran sheet ws start room {n} {k} e = judged (verdict sheet) refl e
         go false h true q = absurd (omega (arith, ap (λ r. r .number) q))
         go false h false q = told (panel (lifts sheet) ws start) refl (ltb-false _ _ h) q
 
-    judged : (v : Verdict) → verdict sheet ≡ v → ofVerdict v (lifts sheet) ws start room ≡ replied n k → Ran sheet ws start n k
+    judged : (v : Verdict) → verdict sheet ≡ v → ofVerdict v (λ rounds. ofLent (lifts sheet) rounds ws start room) ≡ replied n k → Ran sheet ws start n k
     judged (refused x) h q = absurd (omega (arith, ap (λ r. r .number) q, decided sheet .above x h))
     judged (fits m rounds) h q = lent rounds q

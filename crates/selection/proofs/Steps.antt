@@ -1,10 +1,12 @@
 -- A panel that was chosen, step by step: each choice comes from a finished run of its round's plan, where the one before stopped.
-use Prim.Native.Nat.{ℕ}
+use Prim.Native.Nat.{ℕ, suc, _≤_}
 use mathlib.Core.Path.{_≡_, refl, ap}
 use mathlib.Core.List.{List, [], _∷_}
 use native.Mathlib.Omega.{arith}
+use lib.ListN.{length}
 use Rattle.draw.specs.Draw.{largest}
 use Rattle.draw.specs.Run.{Run, finished, short as ended, run}
+use Rattle.draw.proofs.Positions.{run-between}
 use Rattle.round.specs.Choice.{Selection, outcome}
 use Rattle.sheet.specs.Sheet.{Lift}
 use Rattle.selection.specs.Choice.{heldIn, planOf, liftAt, Choice, Panel, chosen, short, preceded, andThen, panelFrom}
@@ -39,3 +41,10 @@ steps ls ws from (r ∷ rs) {cs} {next} e = go (run largest ws from (planOf r ls
         → ((n : ℕ) (ds : List Choice) → panelFrom ls ws n rs ≡ chosen ds next → Steps ls ws n rs ds next) → Steps ls ws from (r ∷ rs) cs next
     go (finished vs s n) q x rest = behind vs s n q (panelFrom ls ws n rs) x (rest n)
     go ended q x rest = let z : _≡_ {A = ℕ} 0 1 = cc in absurd (omega arith)
+
+-- a choice for each round, and positions rise
+pub steps-count : {ls : List Lift} {ws : List ℕ} {from next : ℕ} {rs : List ℕ} {cs : List Choice} → Steps ls ws from rs cs next → (length cs ≡ length rs) × (from ≤ next)
+steps-count none = (refl, omega arith)
+steps-count {ls} {ws} {from} (some {r = r} q k) =
+    let c = steps-count k in
+    (ap suc (c .0), omega (arith, c .1, run-between largest ws from (planOf r ls) q .0))

@@ -4,7 +4,7 @@ use Prim.Native.Nat.{ℕ, suc, _+_, _*_, _-_, _^_}
 use mathlib.Core.Bool.{cond, _&&_, false}
 use mathlib.Core.List.{List, [], _∷_, _++_, map}
 use lib.Dec.{eqb, ltb}
-use lib.ListN.{length, getD, drop}
+use lib.ListN.{length, getD, set, drop}
 use Rattle.laws.specs.Plan.{Plan}
 use Rattle.draw.specs.Draw.{largest}
 use Rattle.draw.specs.Run.{Run, finished, short as ended, run}
@@ -109,6 +109,11 @@ panelFrom ls ws from (r ∷ rs) = andThen r ls (run largest ws from (planOf r ls
 abbrev pub panel : List Lift → List ℕ → ℕ → Panel
 panel ls ws start = panelFrom ls ws start (inUse New ls)
 
+-- a value of each choice at its round's place of a table
+unfoldable pub byRound : (Choice → ℕ) → List Choice → List ℕ → List ℕ
+byRound f [] xs = xs
+byRound f (c ∷ cs) xs = byRound f cs (set xs (c .round) (f c))
+
 -- ---- the reply and the output
 
 -- "13. The chance words end before a needed draw is finished. Place: the new round."
@@ -118,19 +123,21 @@ ofPanel start (short r) = ofRefusal (numbered 13 r)
 
 -- "11. Start position above the number of chance words. Place: the start."
 -- "12. Output shorter than the choices need. Place: the words needed."
-abbrev pub ofLent : List Lift → ℕ → List ℕ → ℕ → ℕ → Reply
-ofLent ls rounds ws start room =
-    cond (ltb (length ws) start) (ofRefusal (numbered 11 start))
-    (cond (ltb room (2 * rounds)) (ofRefusal (numbered 12 (2 * rounds)))
-    (ofPanel start (panel ls ws start)))
+abbrev pub unlessLacking : ℕ → List ℕ → ℕ → ℕ → Reply → Reply
+unlessLacking rounds ws start room otherwise =
+    cond (ltb (length ws) start) (ofRefusal (numbered 11 start)) (cond (ltb room (2 * rounds)) (ofRefusal (numbered 12 (2 * rounds))) otherwise)
 
-abbrev pub ofVerdict : Verdict → List Lift → List ℕ → ℕ → ℕ → Reply
-ofVerdict (refused x) ls ws start room = ofRefusal x
-ofVerdict (fits n k) ls ws start room = ofLent ls k ws start room
+abbrev pub ofLent : List Lift → ℕ → List ℕ → ℕ → ℕ → Reply
+ofLent ls rounds ws start room = unlessLacking rounds ws start room (ofPanel start (panel ls ws start))
+
+-- the reply of a refused sheet, or what follows from the new rounds of a fitting one
+abbrev pub ofVerdict : Verdict → (ℕ → Reply) → Reply
+ofVerdict (refused x) reply = ofRefusal x
+ofVerdict (fits n rounds) reply = reply rounds
 
 -- the reply to a sheet, random words, a start position and an output of so many words
 unfoldable pub reply : List ℕ → List ℕ → ℕ → ℕ → Reply
-reply sheet ws start room = ofVerdict (verdict sheet) (lifts sheet) ws start room
+reply sheet ws start room = ofVerdict (verdict sheet) (λ rounds. ofLent (lifts sheet) rounds ws start room)
 
 -- "kind 5 (upper 7 bits round, lower 21 outcome)"
 abbrev pub roundWord : ℕ → ℕ → ℕ

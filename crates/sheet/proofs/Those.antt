@@ -100,6 +100,16 @@ those-once p a (suc n) t = go (p a) (eqb a t) refl (those-once p (suc a) n t)
     go true false e r = rw e (omega arith)
     go false y e r = r
 
+-- the only one that passes
+pub those-only : (p : ℕ → Bool) (a n t : ℕ) → p t ≡ true → a ≤ t → t < a + n → ((s : ℕ) → (s ≡ t → ⊥) → p s ≡ false) → those p a n ≡ t ∷ []
+unfolding those
+those-only p a zero t e l h o = absurd (omega arith)
+those-only p a (suc n) t e l h o = go (eqb a t) refl (λ m. those-only p (suc a) n t e m (omega arith) o)
+  where
+    go : (y : Bool) → eqb a t ≡ y → (suc a ≤ t → those p (suc a) n ≡ t ∷ []) → cond (p a) (a ∷ those p (suc a) n) (those p (suc a) n) ≡ t ∷ []
+    go true q r = let z : a ≡ t = eqb-true a t q in rw (z, e, those-none p (suc t) n (λ s k _. o s (omega arith)))
+    go false q r = rw (o a (eqb-false a t q)) (r (omega (arith, eqb-false a t q)))
+
 -- ---- the first of them
 
 pub record Head (p : ℕ → Bool) (a n d : ℕ) (ds : List ℕ) : Type 0 where

@@ -1,0 +1,148 @@
+-- What a round of lifts that fit chooses: a lift of that round whose new measure is above 0, since its held lifts have weight.
+use Prim.Native.Nat.{ℕ, zero, suc, _+_, _*_, _≤_, _<_}
+use mathlib.Core.Path.{_≡_, refl, sym, ap, _∙_}
+use mathlib.Core.Bool.{Bool, true, false, cond, _&&_, and-eq-true-iff, false≢true}
+use mathlib.Core.List.{List, [], _∷_, map, List·Memᴰ, List·Memᴰ·head, List·Memᴰ·tail}
+use native.Mathlib.Nat.{mul-pos}
+use native.Mathlib.Omega.{arith}
+use lib.Dec.{eqb}
+use lib.ListN.{getD}
+use borrow.Author.Tests.{eqb-true, eq-eqb}
+use Rattle.laws.specs.Plan.{Every}
+use Rattle.laws.proofs.Lists.{All, all-getD}
+use Rattle.draw.specs.Draw.{largest}
+use Rattle.draw.specs.Run.{finished, run}
+use Rattle.draw.proofs.Runs.{run-every}
+use Rattle.round.specs.Round.{liftAt as roundLiftAt, S, Donate, Weight, oldWeight, newWeight, weights, weightAt}
+use Rattle.round.specs.Choice.{Selection, plan}
+use Rattle.round.specs.Law.{Weighty}
+use Rattle.round.specs.Slices.{lift}
+use Rattle.round.specs.Share.{Initial, here, elsewhere, heldOf}
+use Rattle.round.specs.declared.Donors.{Donors}
+use Rattle.round.specs.declared.Lift.{Lift as RoundLift}
+use Rattle.round.proofs.Laws.{lawful}
+use Rattle.sheet.specs.Sheet.{mostRounds, Lift}
+use Rattle.sheet.specs.Rounds.{placeAt, named, sumOf, donors, ofRound}
+use Rattle.sheet.specs.Law.{Fit}
+use Rattle.sheet.specs.declared.Side.the-variants.{Old, New}
+use Rattle.selection.specs.Choice.{donorNumber, withSums, donorsOf, liftsOf, further, heldAt, heldAmong, heldIn, planOf, nobody, liftAt}
+use Rattle.selection.proofs.Held.{proper}
+use Rattle.selection.proofs.Flags.{ofRound-all}
+use Rattle.selection.proofs.RoundsFit.{Senders, none, one, two, senders, number-first, number-second, round-fits}
+
+-- ---- held lifts have weight
+
+-- the lift that stands at the place of the held lift of old round t
+record Stood (t : ℕ) (u : Lift) : Type 0 where
+  held : u .held ≡ true
+  from : u .old .round ≡ t
+
+stood : (t : ℕ) (us : List Lift) (i : ℕ) → heldAt t us ≡ here i → Stood t (getD us i nobody)
+unfolding heldAt
+stood t [] i e = let z : _≡_ {A = ℕ} 0 1 = cc in absurd (omega arith)
+stood t (u ∷ us) i e = go (u .held && eqb (u .old .round) t) refl (heldAt t us) e (stood t us)
+  where
+    go : (x : Bool) → (u .held && eqb (u .old .round) t) ≡ x → (y : Initial) → cond x (here 0) (further y) ≡ here i
+        → ((j : ℕ) → y ≡ here j → Stood t (getD us j nobody)) → Stood t (getD (u ∷ us) i nobody)
+    go true q y f rest =
+        let z : i ≡ 0 = cc in
+        let h = and-eq-true-iff (u .held) (eqb (u .old .round) t) .0 q in
+        rw z (record { held = h .0; from = eqb-true (u .old .round) t (h .1) })
+    go false q (here j) f rest = let z : i ≡ suc j = cc in rw z (rest j refl)
+    go false q elsewhere f rest = let z : _≡_ {A = ℕ} 0 1 = cc in absurd (omega arith)
+
+-- a held lift's weights in its round
+weights-at : (g : Lift → RoundLift) (w : RoundLift → Weight) (us : List Lift) (i : ℕ) → getD us i nobody .held ≡ true
+    → weightAt (map w (map g us)) i ≡ w (g (getD us i nobody))
+weights-at g w [] i h = absurd (false≢true h)
+weights-at g w (u ∷ us) zero h = refl
+weights-at g w (u ∷ us) (suc i) h = weights-at g w us i h
+
+module _ {ls : List Lift} (f : Fit ls) (r : ℕ) where
+  abbrev us : List Lift
+  us = ofRound r ls
+
+  -- the round, its lifts numbered by some donors
+  abbrev rows : List ℕ → List RoundLift
+  rows ds = map (λ l. lift (l .old .measure) (donorNumber ds (l .old .round)) (placeAt New l .measure)) us
+
+  -- a held lift has an old measure above 0
+  some-measure : (i : ℕ) → getD us i nobody .held ≡ true → 0 < getD us i nobody .old .measure
+  some-measure i =
+      all-getD (λ l. l .held ≡ true → 0 < l .old .measure) (λ e. absurd (false≢true e)) us
+      (ofRound-all (λ l. l .held ≡ true → 0 < l .old .measure) r ls (λ l m _. proper 0 ls (f .listable .listed) l m .held)) i
+
+  -- and so an old weight, if donors and sums give it one
+  weight-some : (ds : List ℕ) (D : Donors) (t i : ℕ) → heldAt t us ≡ here i
+      → ((m b : ℕ) → 0 < m → 0 < oldWeight D (rows ds) (lift m (donorNumber ds t) b)) → 0 < weightAt (weights D (rows ds)) i .old
+  unfolding weights
+  weight-some ds D t i e h =
+      let s = stood t us i e in
+      rw (weights-at _ _ us i (s .held), s .from) (h _ _ (some-measure i (s .held)))
+
+  weigh : (ds : List ℕ) → Senders r ls ds → 0 < S (rows ds) → Donate (withSums ds ls) (rows ds) → Weighty (withSums ds ls) (rows ds) (heldAmong ds us)
+  unfolding oldWeight
+  weigh [] none p d = tt
+  weigh (t ∷ []) (one s l h) p d = go (heldAt t us) refl
+    where
+      first : (m b : ℕ) → 0 < m → 0 < oldWeight (withSums (t ∷ []) ls) (rows (t ∷ [])) (lift m (donorNumber (t ∷ []) t) b)
+      first m b q = rw (eq-eqb t t refl) (mul-pos q p)
+
+      go : (x : Initial) → heldAt t us ≡ x → Weighty (withSums (t ∷ []) ls) (rows (t ∷ [])) (heldOf x elsewhere)
+      go (here i) e = weight-some (t ∷ []) (withSums (t ∷ []) ls) t i e first
+      go elsewhere e = tt
+  weigh (t ∷ v ∷ []) (two s k l m h) p d = go (heldAt t us) refl (heldAt v us) refl
+    where
+      ds : List ℕ
+      ds = t ∷ v ∷ []
+
+      first : (m b : ℕ) → 0 < m → 0 < oldWeight (withSums ds ls) (rows ds) (lift m (donorNumber ds t) b)
+      first m b q =
+          let u : 0 < sumOf Old v ls = omega (arith, d .1 .some, d .1 .part) in
+          let x : 0 < m * sumOf Old v ls = mul-pos q u in
+          rw (number-first t (v ∷ []) t, eq-eqb t t refl) (mul-pos (omega arith) p)
+
+      second : (n b : ℕ) → 0 < n → 0 < oldWeight (withSums ds ls) (rows ds) (lift n (donorNumber ds v) b)
+      second n b q =
+          let u : 0 < sumOf Old t ls = omega (arith, d .0 .some, d .0 .part) in
+          let x : 0 < n * sumOf Old t ls = mul-pos q u in
+          rw (number-second t v [] m v, eq-eqb v v refl) (mul-pos (omega arith) p)
+
+      go : (x : Initial) → heldAt t us ≡ x → (y : Initial) → heldAt v us ≡ y → Weighty (withSums ds ls) (rows ds) (heldOf x y)
+      go (here i) a (here j) b = (weight-some ds (withSums ds ls) t i a first, weight-some ds (withSums ds ls) v j b second)
+      go (here i) a elsewhere b = weight-some ds (withSums ds ls) t i a first
+      go elsewhere a (here j) b = weight-some ds (withSums ds ls) v j b second
+      go elsewhere a elsewhere b = tt
+
+-- ---- the lift chosen
+
+-- a lift of round r that measures something there
+pub record Measured (ls : List Lift) (r : ℕ) (a : Lift) : Type 0 where
+  pub inside : List·Memᴰ a ls
+  pub round : a .new .round ≡ r
+  pub some : 0 < placeAt New a .measure
+
+new-some : (g : Lift → RoundLift) → ((l : Lift) → g l .new ≡ placeAt New l .measure) → (vs : List Lift) (i : ℕ) → 0 < roundLiftAt (map g vs) i .new
+    → 0 < placeAt New (getD vs i nobody) .measure
+new-some g e [] i h = absurd (omega arith)
+new-some g e (v ∷ vs) zero h = rw (e v) at h
+new-some g e (v ∷ vs) (suc i) h = new-some g e vs i h
+
+-- it is one of them: beyond the last there is no measure
+stands-in : (vs : List Lift) (i : ℕ) → 0 < placeAt New (getD vs i nobody) .measure → List·Memᴰ (getD vs i nobody) vs
+stands-in [] i h = absurd (omega arith)
+stands-in (v ∷ vs) zero h = List·Memᴰ·head refl
+stands-in (v ∷ vs) (suc i) h = List·Memᴰ·tail (stands-in vs i h)
+
+module _ {ls : List Lift} (f : Fit ls) {r : ℕ} (low : 1 ≤ r) (high : r ≤ mostRounds) (used : 0 < named New r ls) where
+  -- on every path, and so in every run that ends
+  pub run-measured : (ws : List ℕ) (from : ℕ) {vs : List ℕ} {s : Selection} {next : ℕ} → run largest ws from (planOf r ls) ≡ finished vs s next
+      → Measured ls r (liftAt r ls (s .place))
+  unfolding planOf donorsOf liftsOf heldIn liftAt
+  run-measured ws from {vs} {s} {next} e =
+      let fits = round-fits f low high used in
+      let weighty = weigh f r (donors r ls) (senders f low high) (fits .positive) (fits .donate) in
+      let p : 0 < placeAt New (liftAt r ls (s .place)) .measure =
+      new-some _ (λ l. refl) (ofRound r ls) (s .place) (run-every _ largest (planOf r ls) (lawful (donorsOf r ls) (liftsOf r ls) .chosen (fits .positive) (heldIn r ls) weighty) ws from e) in
+      let a = ofRound-all (λ l. List·Memᴰ l ls × (l .new .round ≡ r)) r ls (λ l m q. (m, q)) _ (stands-in (ofRound r ls) (s .place) p) in
+      record { inside = a .0; round = a .1; some = p }
