@@ -37,15 +37,15 @@ impl Sheet {
     const MEASURES: u32 = 0x20_0000;
 
     // The kinds.
-    const LIFT: u32 = 1;
+    pub const LIFT: u32 = 1;
 
-    const OLD: u32 = 2;
+    pub const OLD: u32 = 2;
 
     pub const NEW: u32 = 3;
 
-    const HELD: u32 = 4;
+    pub const HELD: u32 = 4;
 
-    const END: u32 = 15;
+    pub const END: u32 = 15;
 
     // A word's kind.
     pub fn kind(word: u32) -> u32

@@ -1,0 +1,100 @@
+-- The choices as held marks: they are an initial selection of the lifts carried on, which so marked fit.
+use Prim.Native.Nat.{ℕ, _+_, _≤_, _<_}
+use mathlib.Core.Path.{_≡_, refl, sym, ap, ap₂, subst, _∙_}
+use mathlib.Core.Bool.{Bool, true, false, cond, _||_, false≢true}
+use mathlib.Core.List.{List, [], _∷_, map, List·Memᴰ, List·Memᴰ·head, List·Memᴰ·tail}
+use native.Mathlib.Omega.{arith}
+use lib.Dec.{eqb, ltb}
+use lib.ListN.{length, length-map}
+use borrow.Author.Tests.{eqb-true, ne-eqb, ltb-true}
+use Rattle.laws.proofs.Lists.{All}
+use Rattle.sheet.specs.Sheet.{mostRounds, Lift}
+use Rattle.sheet.specs.Rounds.{placeAt, named, inUse}
+use Rattle.sheet.specs.Law.{Fit}
+use Rattle.sheet.specs.declared.Side.the-variants.{Old, New}
+use Rattle.sheet.proofs.Those.{those-in}
+use Rattle.selection.specs.Choice.{Choice, liftAt}
+use Rattle.selection.specs.Initial.{names, holding, marked}
+use Rattle.selection.proofs.Naming.{Selected, none as selected-none, some as selected-some}
+use Rattle.selection.proofs.MarkedFits.{Unmarked, fit-marked}
+use Rattle.selection.proofs.Steps.{Steps, none, some}
+use Rattle.selection.proofs.Chosen.{Measured, run-measured}
+use Rattle.carry.specs.Next.{remaining, carried, carriedOn, isChosen, nextLifts}
+use Rattle.carry.proofs.Rounds.{named-next, sumOf-next, inUse-next, few-donors, listed-next, remaining-few}
+
+-- ---- the lifts carried on, none of them held
+
+abbrev nobody : Lift → Bool
+nobody l = false
+
+unmarked : {ls : List Lift} → Fit ls → Unmarked (carriedOn nobody ls)
+unmarked {ls} f =
+    record {
+      listable = record {
+        listed = listed-next nobody 0 ls (λ l i e. absurd (false≢true e)) (f .listable .listed);
+        few = rw (length-map (remaining ls) (carried nobody)) (omega (arith, remaining-few ls, f .listable .few));
+      };
+      old = λ r l h. rw (sumOf-next nobody Old r l ls) (f .rounds .new r l h);
+      new = λ r l h. rw (sumOf-next nobody New r l ls) (f .rounds .new r l h);
+      measured = λ r l h. rw (named-next nobody New r l ls, sumOf-next nobody New r l ls) (f .rounds .measured r l h);
+      donors = λ r l h. few-donors nobody r l h ls;
+    }
+
+-- a lift of a new round is carried on
+pub carried-in : (held : Lift → Bool) {a : Lift} {ls : List Lift} → List·Memᴰ a ls → 1 ≤ a .new .round → List·Memᴰ (carried held a) (carriedOn held ls)
+unfolding remaining
+carried-in held {a} (List·Memᴰ·head {x = x} {xs = ls} e) h =
+    let z : eqb (x .new .round) 0 ≡ false = rw (← e) (ne-eqb (a .new .round) 0 (λ q. omega arith)) in
+    rw z (List·Memᴰ·head (ap (carried held) e))
+carried-in held {a} (List·Memᴰ·tail {x = x} {xs = ls} i) h = go (eqb (x .new .round) 0) (carried-in held i h)
+  where
+    go : (t : Bool) → List·Memᴰ (carried held a) (carriedOn held ls) → List·Memᴰ (carried held a) (map (carried held) (cond t (remaining ls) (x ∷ remaining ls)))
+    go true m = m
+    go false m = List·Memᴰ·tail m
+
+-- ---- the choices of some rounds
+
+-- a round in use
+pub record Used (ls : List Lift) (r : ℕ) : Type 0 where
+  pub low : 1 ≤ r
+  pub high : r ≤ mostRounds
+  pub some : 0 < named New r ls
+
+pub all-used : (ls : List Lift) → All (Used ls) (inUse New ls)
+all-used ls r m =
+    let h = those-in (λ t. ltb 0 (named New t ls)) 1 mostRounds r m in
+    record { low = h .1; high = omega (arith, h .2); some = ltb-true 0 (named New r ls) (h .0) }
+
+-- the lifts chosen, as a selection: it names the choices
+record Marks (ls : List Lift) (rs : List ℕ) (cs : List Choice) : Type 0 where
+  lifts : List Lift
+  selected : Selected (carriedOn nobody ls) rs lifts
+  same : (l : Lift) → names lifts (l .number) ≡ isChosen cs l
+
+marks : {ls : List Lift} → Fit ls → {ws : List ℕ} {from next : ℕ} {rs : List ℕ} {cs : List Choice} → All (Used ls) rs → Steps ls ws from rs cs next → Marks ls rs cs
+unfolding names isChosen
+marks f u none = record { lifts = []; selected = selected-none; same = λ l. refl }
+marks {ls} f {ws} {from} u (some {r = r} {s = s} q k) =
+    let used = u r (List·Memᴰ·head refl) in
+    let a = run-measured f (used .low) (used .high) (used .some) ws from q in
+    let m = marks f (λ t i. u t (List·Memᴰ·tail i)) k in
+    let x : Lift = liftAt r ls (s .place) in
+    record {
+      lifts = carried nobody x ∷ m .lifts;
+      selected = selected-some (carried-in nobody (a .inside) (omega (arith, a .round, used .low))) (a .round) (a .some) (m .selected);
+      same = λ l. ap (λ b. eqb (x .number) (l .number) || b) (m .same l);
+    }
+
+-- marking them is marking the choices
+marked-next : (m : List Lift) (cs : List Choice) → ((l : Lift) → names m (l .number) ≡ isChosen cs l) → (us : List Lift)
+    → marked m (map (carried nobody) us) ≡ map (carried (isChosen cs)) us
+unfolding marked
+marked-next m cs e [] = refl
+marked-next m cs e (u ∷ us) = ap₂ (λ h ls. carried (λ _. h) u ∷ ls) (e u) (marked-next m cs e us)
+
+-- next quarter's lifts fit
+pub fit-next : {ls : List Lift} → Fit ls → {ws : List ℕ} {from next : ℕ} {cs : List Choice} → Steps ls ws from (inUse New ls) cs next → Fit (nextLifts cs ls)
+fit-next {ls} f {cs = cs} k =
+    let m = marks f (all-used ls) k in
+    let s : Selected (carriedOn nobody ls) (inUse Old (carriedOn nobody ls)) (m .lifts) = rw (inUse-next nobody Old ls) (m .selected) in
+    subst Fit (marked-next (m .lifts) cs (m .same) (remaining ls)) (fit-marked (unmarked f) s)

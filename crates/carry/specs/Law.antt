@@ -1,0 +1,39 @@
+-- What is proved of next quarter's sheet: it reads back as the lifts that were carried on, fits, and, run at once, keeps every recorder.
+use Prim.Native.Nat.{ℕ, _*_, _≤_}
+use mathlib.Core.Path.{_≡_}
+use mathlib.Core.List.{List, [], map}
+use lib.ListN.{length}
+use Rattle.sheet.specs.Sheet.{Lift, lifts}
+use Rattle.sheet.specs.Rounds.{inUse}
+use Rattle.sheet.specs.Refusal.{fits, verdict}
+use Rattle.sheet.specs.Reply.{replied}
+use Rattle.sheet.specs.Law.{Fit}
+use Rattle.sheet.specs.declared.Side.the-variants.{New}
+use Rattle.selection.specs.Choice.{Choice, chosen, panel, written, reply, output}
+use Rattle.carry.specs.Next.{remaining, nextLifts, nextSheet, wordsNeeded}
+
+-- a choice whose lift is kept, with nothing drawn
+abbrev pub kept : Choice → Choice
+kept c = record { round = c .round; number = c .number; outcome = 1; values = [] }
+
+-- some choices and the sheet that is written from them
+pub record Carries (ls : List Lift) (cs : List Choice) : Type 0 where
+  -- "Reading it back must yield exactly those rounds, measures and held lifts"
+  pub back : lifts (nextSheet cs ls) ≡ nextLifts cs ls
+  -- none of the refusals 1 to 10 and 16 applies
+  pub fits : verdict (nextSheet cs ls) ≡ fits (length (remaining ls)) (length (inUse New ls))
+  -- it has "the words needed", which are known before any draw
+  pub long : length (nextSheet cs ls) ≡ wordsNeeded ls (length (inUse New ls))
+  -- "running it at once must keep every recorder and read no chance word", whatever words there are
+  pub keeps : (ws : List ℕ) (start : ℕ) → panel (nextLifts cs ls) ws start ≡ chosen (map kept cs) start
+  pub replies : (ws : List ℕ) (start room : ℕ) → start ≤ length ws → 2 * length cs ≤ room → reply (nextSheet cs ls) ws start room ≡ replied (length cs) 0
+  pub writes : (ws : List ℕ) (start : ℕ) (out : List ℕ) → start ≤ length ws → 2 * length cs ≤ length out
+      → output (nextSheet cs ls) ws start out ≡ written (map kept cs) out
+
+-- so it is for all random words, every start and the choices that they give
+abbrev pub CarriesAll : List Lift → Type 0
+CarriesAll ls = (ws : List ℕ) (start next : ℕ) (cs : List Choice) → panel ls ws start ≡ chosen cs next → Carries ls cs
+
+-- proved: of all lifts that fit
+abbrev pub CarriesTheorem : Type 0
+CarriesTheorem = (ls : List Lift) → Fit ls → CarriesAll ls

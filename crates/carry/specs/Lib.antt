@@ -1,0 +1,5 @@
+pub mod Next
+pub mod Reply
+pub mod Law
+pub mod Worked
+pub mod Writing

@@ -1,0 +1,36 @@
+-- The reply of the call that also writes next quarter's sheet, and what it leaves in both outputs.
+use Prim.Native.Nat.{ℕ}
+use mathlib.Core.Bool.{cond}
+use mathlib.Core.List.{List}
+use lib.Dec.{ltb}
+use lib.ListN.{length}
+use Rattle.sheet.specs.Sheet.{Lift, lifts}
+use Rattle.sheet.specs.Reading.{numbered}
+use Rattle.sheet.specs.Refusal.{verdict}
+use Rattle.sheet.specs.Reply.{Reply, ofRefusal, unlessRefused}
+use Rattle.selection.specs.Choice.{Panel, chosen, short, panel, ofPanel, unlessLacking, ofVerdict, writtenOf}
+use Rattle.carry.specs.Next.{nextSheet, wordsNeeded, onto}
+
+-- "17 when the lent sheet has too few words; place the words needed, after 12 and before 13."
+abbrev pub ofLent : List Lift → ℕ → List ℕ → (start room space : ℕ) → Reply
+ofLent ls rounds ws start room space =
+    unlessLacking rounds ws start room
+    (cond (ltb space (wordsNeeded ls rounds)) (ofRefusal (numbered 17 (wordsNeeded ls rounds))) (ofPanel start (panel ls ws start)))
+
+-- the reply to a sheet, random words, a start position, an output of so many words and a lent sheet of so many
+unfoldable pub reply : List ℕ → List ℕ → (start room space : ℕ) → Reply
+reply sheet ws start room space = ofVerdict (verdict sheet) (λ rounds. ofLent (lifts sheet) rounds ws start room space)
+
+-- the output after the call
+unfoldable pub output : List ℕ → List ℕ → ℕ → List ℕ → ℕ → List ℕ
+output sheet ws start out space = unlessRefused (reply sheet ws start (length out) space) out (writtenOf (panel (lifts sheet) ws start) out)
+
+-- the next sheet of a panel, written to a lent one
+abbrev pub carriedTo : Panel → List Lift → List ℕ → List ℕ
+carriedTo (chosen cs n) ls next = onto (nextSheet cs ls) next
+carriedTo (short r) ls next = next
+
+-- the lent sheet after the call
+unfoldable pub nextOutput : List ℕ → List ℕ → (start room : ℕ) → List ℕ → List ℕ
+nextOutput sheet ws start room next =
+    unlessRefused (reply sheet ws start room (length next)) next (carriedTo (panel (lifts sheet) ws start) (lifts sheet) next)
