@@ -1,79 +1,94 @@
 -- The answer to a fitting sheet and the output: one law for each way out.
-use Prim.Native.Nat.{ℕ, suc, _+_, _-_, _*_, _≤_, _<_}
+use Prim.Native.Nat.{ℕ, _*_, _^_, _≤_, _<_}
 use mathlib.Core.Path.{_≡_, refl, sym, ap, _∙_}
-use mathlib.Core.List.{List, [], _∷_, _++_, map}
+use mathlib.Core.List.{List, []}
 use native.Mathlib.Omega.{arith}
 use lib.Dec.{ltb}
-use lib.ListN.{length, take, drop}
-use lib.Seq.{drop-drop}
-use borrow.Author.Tests.{ne-eqb, lt-ltb, le-ltb}
-use Rattle.draw.specs.Draw.{largest}
-use Rattle.draw.proofs.Positions.{run-between}
+use lib.ListN.{length}
+use borrow.Author.Tests.{eq-eqb, ne-eqb, lt-ltb, le-ltb}
 use Rattle.sheet.specs.Sheet.{mostRounds, Lift, lifts}
 use Rattle.sheet.specs.Reading.{Numbered, numbered}
 use Rattle.sheet.specs.Rounds.{named, inUse}
-use Rattle.sheet.proofs.Those.{those-few}
+use Rattle.sheet.specs.Law.{Fit}
+use Rattle.sheet.proofs.Those.{those-few, those-rise}
 use Rattle.sheet.specs.Refusal.{refused, fits, verdict}
-use Rattle.sheet.specs.Reply.{Reply, ofRefusal, replied, unlessRefused}
+use Rattle.sheet.specs.Reply.{Reply, ofRefusal, unlessRefused}
 use Rattle.sheet.proofs.Verdicts.{decided}
 use Rattle.sheet.specs.declared.Side.the-variants.{New}
-use Rattle.selection.specs.Choice.{planOf, Choice, Panel, chosen, short, panel, ofPanel, ofLent, reply, written, writtenOf, output}
-use Rattle.selection.proofs.Steps.{Steps, none, some, steps}
-use Rattle.panel.specs.Slices.{firstWord, secondWord, pairs, Picked}
+use Rattle.selection.specs.Choice.{Choice, Panel, chosen, short, panel, ofPanel, ofLent, reply, written, writtenOf, output}
+use Rattle.selection.proofs.Steps.{Steps, steps, steps-count}
+use Rattle.panel.specs.Slices.{Gathers, Picked, pairs, Writable, toldBy, writtenBy}
 use Rattle.panel.specs.declared.Picks.{Picks}
+use Rattle.panel.proofs.Tabled.{Rises, steps-rise, tabled-each, pairs-tabled, length-written, written-behind}
 
--- ---- pairs
+-- ---- the choices gathered
 
-written-pairs : (cs : List Choice) (out : List ℕ) → written cs out ≡ pairs (map firstWord cs) (map secondWord cs) ++ drop (2 * length cs) out
-unfolding written
-written-pairs [] out = refl
-written-pairs (c ∷ cs) out =
-    let n : 2 + 2 * length cs ≡ 2 * suc (length cs) = omega arith in
-    ap (λ l. firstWord c ∷ secondWord c ∷ l) (written-pairs cs (drop 2 out) ∙ rw (drop-drop, n) refl)
+-- where the words did not end, the choices are those of the panel
+record Done (ls : List Lift) (ws : List ℕ) (start : ℕ) (p : Picks) : Type 0 where
+  pub choices : List Choice
+  pub next : ℕ
+  pub gathers : Gathers choices next p
+  pub steps : Steps ls ws start (inUse New ls) choices next
 
--- ---- what the code gathered
+-- what `finish` asks and ensures, of choices that are a panel's
+module _ (ls : List Lift) (ws : List ℕ) (start : ℕ) (p : Picks) (d : Picked (panel ls ws start) p) where
+  done : p .short ≡ 0 → Done ls ws start p
+  done z = go (panel ls ws start) refl d
+    where
+      go : (x : Panel) → panel ls ws start ≡ x → Picked x p → Done ls ws start p
+      go (chosen cs next) e g = record { choices = cs; next = next; gathers = g; steps = steps ls ws start (inUse New ls) e }
+      go (short r) e g = absurd (omega (arith, g .0, g .1))
 
-module _ (p : Picks) (start : ℕ) where
-  short-reply : (pl : Panel) → Picked pl p → (p .short ≡ 0 → ⊥) → ofRefusal (numbered 13 (p .short)) ≡ ofPanel start pl
-  short-reply (chosen cs next) d h = absurd (h (d .finished))
-  short-reply (short r) d h = rw (d .1)
+  -- the words were read from the start on
+  pub onward : p .short ≡ 0 → start ≤ p .next
+  onward z = let x = done z in omega (arith, x .gathers .next, steps-count (x .steps) .1)
 
-  done-reply : (pl : Panel) → Picked pl p → p .short ≡ 0 → replied (p .count) (p .next - start) ≡ ofPanel start pl
-  done-reply (chosen cs next) d h = rw (d .count, d .next)
-  done-reply (short r) d h = absurd (omega (arith, d .0, d .1))
+  -- the reply is the panel's
+  pub told-panel : toldBy p start ≡ ofPanel start (panel ls ws start)
+  told-panel = go (panel ls ws start) d
+    where
+      go : (x : Panel) → Picked x p → toldBy p start ≡ ofPanel start x
+      go (chosen cs next) g = rw (eq-eqb (p .short) 0 (g .finished), g .count, g .next)
+      go (short r) g = rw (ne-eqb (p .short) 0 (λ z. omega (arith, g .0, g .1)), g .1)
 
-  done-output : (pl : Panel) → Picked pl p → p .short ≡ 0 → (out : List ℕ)
-      → pairs (take (p .count) (p .firsts)) (take (p .count) (p .seconds)) ++ drop (2 * p .count) out ≡ unlessRefused (ofPanel start pl) out (writtenOf pl out)
-  done-output (chosen cs next) d h out = rw (d .firsts, d .seconds, d .count) (sym (written-pairs cs out))
-  done-output (short r) d h out = absurd (omega (arith, d .0, d .1))
+  module _ (f : Fit ls) where
+    -- the choices' rounds rise
+    rise : {cs : List Choice} {next : ℕ} → Steps ls ws start (inUse New ls) cs next → Rises 1 cs
+    rise k = steps-rise (f .listable .listed) k 1 (those-rise (λ r. r ≤ mostRounds) (λ r. ltb 0 (named New r ls)) 1 mostRounds (λ r l m e. omega arith))
 
-  -- the choices are as many as the rounds, and each has its words
-  done-count : (pl : Panel) (n : ℕ) → Picked pl p → p .short ≡ 0 → ((cs : List Choice) (next : ℕ) → pl ≡ chosen cs next → length cs ≡ n) → p .count ≡ n
-  done-count (chosen cs next) n d h k = d .count ∙ k cs next refl
-  done-count (short r) n d h k = absurd (omega (arith, d .0, d .1))
+    pairs-are : {cs : List Choice} {next : ℕ} → Gathers cs next p → Steps ls ws start (inUse New ls) cs next → pairs (p .numbers) (p .outcomes) ≡ written cs []
+    pairs-are {cs} g k = rw (g .numbers, g .outcomes) (pairs-tabled cs (rise k))
 
-  done-next : (pl : Panel) → Picked pl p → p .short ≡ 0 → ((cs : List Choice) (next : ℕ) → pl ≡ chosen cs next → start ≤ next) → start ≤ p .next
-  done-next (chosen cs next) d h k = rw (d .next) (k cs next refl)
-  done-next (short r) d h k = absurd (omega (arith, d .0, d .1))
+    -- the pairs have room where each round has two words
+    pub writable : (room : ℕ) → 2 * length (inUse New ls) ≤ room → p .short ≡ 0 → Writable (p .numbers) (p .outcomes) room
+    writable room h z =
+        let x = done z in
+        let r = rise (x .steps) in
+        record {
+          few = rw (pairs-are (x .gathers) (x .steps), length-written (x .choices)) (omega (arith, steps-count (x .steps) .0));
+          numbers = record { each = rw (x .gathers .numbers) (tabled-each (λ v. v < 2 ^ 28) (λ c. c .number) (λ c s. s .number) (omega arith) (x .choices) r) };
+          outcomes = rw (x .gathers .outcomes) (tabled-each (λ v. v ≤ 3) (λ c. c .outcome) (λ c s. s .most) (omega arith) (x .choices) r);
+        }
 
-  done-long : (pl : Panel) → Picked pl p → p .short ≡ 0 → (length (p .firsts) ≡ mostRounds) × (length (p .seconds) ≡ mostRounds)
-  done-long (chosen cs next) d h = (d .long-firsts, d .long-seconds)
-  done-long (short r) d h = absurd (omega (arith, d .0, d .1))
-
--- ---- the panel
-
--- a choice for each round, and positions rise
-panel-count : {ls : List Lift} {ws : List ℕ} {from next : ℕ} {rs : List ℕ} {cs : List Choice} → Steps ls ws from rs cs next → (length cs ≡ length rs) × (from ≤ next)
-panel-count none = (refl, omega arith)
-panel-count {ls} {ws} {from} (some {r = r} q k) =
-    let c = panel-count k in
-    (ap suc (c .0), omega (arith, c .1, run-between largest ws from (planOf r ls) q .0))
+    -- the output is the panel's
+    pub written-panel : (out : List ℕ) → writtenBy p out ≡ writtenOf (panel ls ws start) out
+    written-panel out = go (panel ls ws start) refl d
+      where
+        go : (x : Panel) → panel ls ws start ≡ x → Picked x p → writtenBy p out ≡ writtenOf x out
+        go (chosen cs next) e g =
+            rw (eq-eqb (p .short) 0 (g .finished), pairs-are g (steps ls ws start (inUse New ls) e), length-written cs) (sym (written-behind cs out))
+        go (short r) e g = rw (ne-eqb (p .short) 0 (λ z. omega (arith, g .0, g .1)))
 
 -- ---- the ways out
 
 -- a refusal leaves the output
 pub left : (x : Numbered) {y : Reply} (out new : List ℕ) → 0 < x .number → ofRefusal x ≡ y → (ofRefusal x ≡ y) × (out ≡ unlessRefused y out new)
 left x out new h e = (e, rw (← e, ne-eqb (x .number) 0 (λ z. omega (arith, z, h))))
+
+-- and so does a panel whose words ended
+left-panel : (start : ℕ) (x : Panel) (out : List ℕ) → writtenOf x out ≡ unlessRefused (ofPanel start x) out (writtenOf x out)
+left-panel start (chosen cs next) out = refl
+left-panel start (short r) out = refl
 
 pub few-rounds : (ls : List Lift) → length (inUse New ls) ≤ mostRounds
 few-rounds ls = those-few (λ r. ltb 0 (named New r ls)) 1 mostRounds
@@ -86,31 +101,11 @@ module _ (ls : List Lift) (ws : List ℕ) (start : ℕ) (out : List ℕ) where
     pub narrow : length out < 2 * n → ofRefusal (numbered 12 (2 * n)) ≡ ofLent ls n ws start (length out)
     narrow h = rw (le-ltb (length ws) start a, lt-ltb (length out) (2 * n) h)
 
-    module _ (b : 2 * n ≤ length out) (p : Picks) (d : Picked (panel ls ws start) p) where
-      through : ofPanel start (panel ls ws start) ≡ ofLent ls n ws start (length out)
-      through = rw (le-ltb (length ws) start a, le-ltb (length out) (2 * n) b)
-
-      pub ran-short : (p .short ≡ 0 → ⊥) → ofRefusal (numbered 13 (p .short)) ≡ ofLent ls n ws start (length out)
-      ran-short h = short-reply p start (panel ls ws start) d h ∙ through
-
-      pub ran : p .short ≡ 0 → replied (p .count) (p .next - start) ≡ ofLent ls n ws start (length out)
-      ran h = done-reply p start (panel ls ws start) d h ∙ through
-
-      pub wrote : p .short ≡ 0 → pairs (take (p .count) (p .firsts)) (take (p .count) (p .seconds)) ++ drop (2 * p .count) out
-          ≡ unlessRefused (ofLent ls n ws start (length out)) out (writtenOf (panel ls ws start) out)
-      wrote h = done-output p start (panel ls ws start) d h out ∙ ap (λ x. unlessRefused x out (writtenOf (panel ls ws start) out)) through
-
-      pub forward : p .short ≡ 0 → start ≤ p .next
-      forward h = done-next p start (panel ls ws start) d h (λ cs next e. panel-count (steps ls ws start (inUse New ls) e) .1)
-
-      pub counted : p .short ≡ 0 → p .count ≡ length (inUse New ls)
-      counted h = done-count p start (panel ls ws start) (length (inUse New ls)) d h (λ cs next e. panel-count (steps ls ws start (inUse New ls) e) .0)
-
-      pub firsts-long : p .short ≡ 0 → p .count ≤ length (p .firsts)
-      firsts-long h = omega (arith, counted h, few-rounds ls, done-long p start (panel ls ws start) d h .0)
-
-      pub seconds-long : p .short ≡ 0 → p .count ≤ length (p .seconds)
-      seconds-long h = omega (arith, counted h, few-rounds ls, done-long p start (panel ls ws start) d h .1)
+    pub through : 2 * n ≤ length out → (p : Picks) → Picked (panel ls ws start) p → Fit ls → {y : Reply} {out′ : List ℕ} → y ≡ toldBy p start → out′ ≡ writtenBy p out
+        → (y ≡ ofLent ls n ws start (length out)) × (out′ ≡ unlessRefused (ofLent ls n ws start (length out)) out (writtenOf (panel ls ws start) out))
+    through b p d f e g =
+        rw (le-ltb (length ws) start a, le-ltb (length out) (2 * n) b)
+        (e ∙ told-panel ls ws start p d, g ∙ written-panel ls ws start p d f out ∙ left-panel start (panel ls ws start) out)
 
 -- ---- the whole sheet
 

@@ -7,15 +7,14 @@ use native.Mathlib.Nat.{sub-zero, zero-sub, suc-sub-suc}
 use native.Mathlib.Numerals.{add-one}
 use native.Mathlib.Omega.{arith}
 use lib.Dec.{eqb, ltb}
-use lib.ListN.{length, getD, take, drop, length-set, length-append, length-take, length-drop, List·getD-map, List·getD-eq-default}
-use lib.Seq.{slice, take-nil, drop-nil, take-suc-set, length-take-le, getD-take, getD-drop}
+use lib.ListN.{length, getD, take, drop, set, replicate, length-append, length-take, length-drop, List·getD-map, List·getD-eq-default}
+use lib.Seq.{slice, take-nil, drop-nil, length-take-le, getD-take, getD-drop}
 use borrow.Author.Tests.{eq-eqb, ne-eqb, ltb-true, ltb-false}
 use Rattle.draw.specs.Draw.{largest}
 use Rattle.draw.specs.Run.{Run, finished, short as ended, run}
-use Rattle.round.specs.Choice.{Selection, isHeld, outcome, answer, selected}
+use Rattle.round.specs.Choice.{Selection, answer, selected}
 use Rattle.round.specs.Slices.{Callable}
 use Rattle.round.specs.declared.Donors.{Donors}
-use Rattle.round.specs.declared.Held.{Held as RoundHeld}
 use Rattle.round.specs.declared.Selected.{Selected}
 use Rattle.round.specs.declared.Selected.the-variants.{At as AtPlace, Short}
 use Rattle.sheet.specs.Sheet.{mostRounds, Lift}
@@ -26,28 +25,14 @@ use Rattle.sheet.specs.declared.Side.the-variants.{Old, New}
 use Rattle.sheet.specs.declared.Field.the-variants.{Number, Round, Measure, Held}
 use Rattle.sheet.proofs.Tables.{getD-tabulate}
 use Rattle.sheet.proofs.Placing.{below-mono, below-le, below-suc, named-length}
-use Rattle.selection.specs.Choice.{withSums, donorsOf, liftsOf, heldIn, planOf, liftAt, nobody, Choice, Panel, chosen, short, preceded, andThen, panelFrom, panel}
-use Rattle.panel.specs.Slices.{sendersOf, withTable, heldBy, roundOf, Even, Within, Lent, begins, partOf, sendersIn, donorsIn, liftsIn, marksIn, Small, Ready, picked, after, stepped, goOn, steppedFrom, noPicks, firstWord, secondWord, Gathers, Picked}
+use Rattle.selection.specs.Choice.{withSums, donorsOf, liftsOf, heldIn, planOf, liftAt, nobody, Choice, Panel, chosen, short, preceded, andThen, panelFrom, panel, byRound}
+use Rattle.panel.specs.Slices.{sendersOf, withTable, heldBy, roundOf, Even, Within, Lent, begins, partOf, sendersIn, donorsIn, liftsIn, marksIn, Small, Ready, picked, after, stepped, goOn, steppedFrom, noPicks, Gathers, Picked}
 use Rattle.panel.specs.declared.Senders.{Senders as Donating}
 use Rattle.panel.specs.declared.Picks.{Picks}
 use Rattle.sheet.proofs.Those.{those-head}
 use Rattle.selection.proofs.Steps.{made}
 use Rattle.selection.proofs.RoundsFit.{Senders, none, one, two, senders, round-fits, round-bounded, round-stands}
 use Rattle.panel.proofs.Lending.{senders-donors, heldBy-of, roundOf-of}
-
--- an outcome is at most 3
-outcome-le : (h : RoundHeld) (s : Selection) → outcome h s ≤ 3
-unfolding outcome
-outcome-le h s = go (isHeld h (s .place)) (s .dropped)
-  where
-    go : (x y : Bool) → cond x 1 (cond y 2 3) ≤ 3
-    go true y = omega arith
-    go false true = omega arith
-    go false false = omega arith
-
-pub outcome-small : (h : RoundHeld) (x : Run Selection) {i o n : ℕ} → AtPlace i o n ≡ answer h x → o ≤ 3
-outcome-small h (finished vs s next) {i} {o} e = let q : o ≡ outcome h s = cc in rw q (outcome-le h s)
-outcome-small h ended e = let z : _≡_ {A = ℕ} 0 1 = cc in absurd (omega arith)
 
 -- a part of a list as the code lends it
 slice-part : (a e : ℕ) (l : List ℕ) → take (e - a) (drop a l) ≡ slice a e l
@@ -162,57 +147,62 @@ prefixed-none : (p : Panel) → prefixed [] p ≡ p
 prefixed-none (chosen ds next) = refl
 prefixed-none (short r) = refl
 
-map-one : {A B : Type 0} (f : A → B) (cs : List A) (c : A) → map f (cs ++ (c ∷ [])) ≡ map f cs ++ (f c ∷ [])
-map-one f [] c = refl
-map-one f (x ∷ cs) c = ap (λ l. f x ∷ l) (map-one f cs c)
+-- a table with one choice more
+byRound-one : (f : Choice → ℕ) (cs : List Choice) (c : Choice) (xs : List ℕ) → byRound f (cs ++ (c ∷ [])) xs ≡ set (byRound f cs xs) (c .round) (f c)
+unfolding byRound
+byRound-one f [] c xs = refl
+byRound-one f (x ∷ cs) c xs = byRound-one f cs c (set xs (x .round) (f x))
+
+-- at first there are none
+gathers-none : (start : ℕ) → Gathers [] start (noPicks start)
+unfolding byRound
+gathers-none start = record { numbers = refl; outcomes = refl; count = refl; next = refl; finished = refl }
 
 -- one choice more is gathered
-gathers-one : (cs : List Choice) (n : ℕ) (p : Picks) → Gathers cs n p → p .count < mostRounds → (c : Choice) (next : ℕ)
+gathers-one : (cs : List Choice) (n : ℕ) (p : Picks) → Gathers cs n p → (c : Choice) (next : ℕ)
     → Gathers (cs ++ (c ∷ [])) next (picked p (c .round) (c .number) (c .outcome) next)
-gathers-one cs n p g h c next =
+gathers-one cs n p g c next =
     record {
+      numbers = rw (byRound-one (λ c. c .number) cs c (replicate (mostRounds + 1) 0), g .numbers) refl;
+      outcomes = rw (byRound-one (λ c. c .outcome) cs c (replicate (mostRounds + 1) 0), g .outcomes) refl;
       count = rw (length-append cs (c ∷ [])) (omega (arith, g .count));
-      firsts = rw (add-one, take-suc-set (p .firsts) (p .count) (firstWord c) (omega (arith, g .long-firsts)), map-one firstWord cs c) (ap (λ l. l ++ (firstWord c ∷ [])) (g .firsts));
-      seconds = rw (add-one, take-suc-set (p .seconds) (p .count) (secondWord c) (omega (arith, g .long-seconds)), map-one secondWord cs c) (ap (λ l. l ++ (secondWord c ∷ [])) (g .seconds));
       next = refl;
       finished = refl;
-      long-firsts = simp length-set (g .long-firsts);
-      long-seconds = simp length-set (g .long-seconds);
     }
 
 -- after the run of a round, where the rounds behind it are gathered too
 module _ (ls : List Lift) (r : ℕ) (low : 1 ≤ r) (high : r ≤ mostRounds) (rest : ℕ → Panel) (onward : Picks → Picks)
-    (ih : (cs : List Choice) (from : ℕ) (p : Picks) → Gathers cs from p → p .count < suc r → Picked (prefixed cs (rest from)) (onward p)) where
-  gather-run : (cs : List Choice) (from : ℕ) (p : Picks) → Gathers cs from p → p .count < r → (x : Run Selection)
+    (ih : (cs : List Choice) (from : ℕ) (p : Picks) → Gathers cs from p → Picked (prefixed cs (rest from)) (onward p)) where
+  gather-run : (cs : List Choice) (from : ℕ) (p : Picks) → Gathers cs from p → (x : Run Selection)
       → Picked (prefixed cs (andThen r ls x rest)) (goOn (after p r (map (fieldOf Number) (ofRound r ls)) (answer (heldIn r ls) x)) onward)
   unfolding liftAt
-  gather-run cs from p g few (finished vs s next) =
+  gather-run cs from p g (finished vs s next) =
       let c = made r ls vs s in
       let e : getD (map (fieldOf Number) (ofRound r ls)) (s .place) 0 ≡ c .number = List·getD-map (fieldOf Number) (ofRound r ls) (s .place) nobody in
       rw (prefixed-one cs c (rest next), e)
-      (ih (cs ++ (c ∷ [])) next (picked p r (c .number) (c .outcome) next) (gathers-one cs from p g (omega arith) c next) (omega arith))
-  gather-run cs from p g few ended = rw (ne-eqb r 0 (λ e. omega arith)) (low, refl)
+      (ih (cs ++ (c ∷ [])) next (picked p r (c .number) (c .outcome) next) (gathers-one cs from p g c next))
+  gather-run cs from p g ended = rw (ne-eqb r 0 (λ e. omega arith)) (low, refl)
 
 module _ {ls : List Lift} {x : Lent} (d : Lends ls x) (ws : List ℕ) where
-  gather : (n r : ℕ) → 1 ≤ r → r + n ≤ mostRounds + 1 → (cs : List Choice) (from : ℕ) (p : Picks) → Gathers cs from p → p .count < r
+  gather : (n r : ℕ) → 1 ≤ r → r + n ≤ mostRounds + 1 → (cs : List Choice) (from : ℕ) (p : Picks) → Gathers cs from p
       → Picked (prefixed cs (panelFrom ls ws from (those (λ t. ltb 0 (named New t ls)) r n))) (steppedFrom x ws p r n)
   unfolding those steppedFrom panelFrom
-  gather zero r low high cs from p g few = rw (append-nil cs) g
-  gather (suc n) r low high cs from p g few = go (ltb 0 (named New r ls)) refl (λ cs from p g few. gather n (suc r) (omega arith) (omega arith) cs from p g few)
+  gather zero r low high cs from p g = rw (append-nil cs) g
+  gather (suc n) r low high cs from p g = go (ltb 0 (named New r ls)) refl (gather n (suc r) (omega arith) (omega arith))
     where
       go : (t : Bool) → ltb 0 (named New r ls) ≡ t
-          → ((cs : List Choice) (from : ℕ) (p : Picks) → Gathers cs from p → p .count < suc r → Picked (prefixed cs (panelFrom ls ws from (those (λ t. ltb 0 (named New t ls)) (suc r) n))) (steppedFrom x ws p (suc r) n))
+          → ((cs : List Choice) (from : ℕ) (p : Picks) → Gathers cs from p → Picked (prefixed cs (panelFrom ls ws from (those (λ t. ltb 0 (named New t ls)) (suc r) n))) (steppedFrom x ws p (suc r) n))
           → Picked (prefixed cs (panelFrom ls ws from (cond t (r ∷ those (λ t. ltb 0 (named New t ls)) (suc r) n) (those (λ t. ltb 0 (named New t ls)) (suc r) n)))) (goOn (stepped x ws p r) (λ q. steppedFrom x ws q (suc r) n))
       go true e ih =
           rw (stepped-used d r low (omega arith) ws p e, ← g .next)
           (gather-run ls r low (omega arith) (λ next. panelFrom ls ws next (those (λ t. ltb 0 (named New t ls)) (suc r) n)) (λ q. steppedFrom x ws q (suc r) n)
-          ih cs from p g few (run largest ws (p .next) (planOf r ls)))
-      go false e ih = rw (stepped-passed d r low (omega arith) ws p e, eq-eqb (p .short) 0 (g .finished)) (ih cs from p g (omega arith))
+          ih cs from p g (run largest ws (p .next) (planOf r ls)))
+      go false e ih = rw (stepped-passed d r low (omega arith) ws p e, eq-eqb (p .short) 0 (g .finished)) (ih cs from p g)
 
   pub gathered : (start : ℕ) → Picked (panel ls ws start) (steppedFrom x ws (noPicks start) 1 mostRounds)
   gathered start =
       subst (λ q. Picked q (steppedFrom x ws (noPicks start) 1 mostRounds)) (prefixed-none (panel ls ws start))
-      (gather mostRounds 1 (omega arith) (omega arith) [] start (noPicks start) (record { count = refl; firsts = refl; seconds = refl; next = refl; finished = refl; long-firsts = refl; long-seconds = refl }) (omega arith))
+      (gather mostRounds 1 (omega arith) (omega arith) [] start (noPicks start) (gathers-none start))
 
 -- ---- the loop over the rounds
 

@@ -28,7 +28,7 @@ below-all n [] d = refl
 below-all n (l ∷ ls) d = omega (arith, below-all (l .number) ls (d .1), ap indicator (lt-ltb (l .new .round) (suc mostRounds) (omega (arith, d .0 .new .round))))
 
 -- a round's numbers have room in a word
-numbers-small : (n r : ℕ) (ls : List Lift) → Listed n ls → (j : ℕ) → getD (map (fieldOf Number) (ofRound r ls)) j 0 < 2 ^ 28
+pub numbers-small : (n r : ℕ) (ls : List Lift) → Listed n ls → (j : ℕ) → getD (map (fieldOf Number) (ofRound r ls)) j 0 < 2 ^ 28
 unfolding ofRound Listed
 numbers-small n r [] d j = omega arith
 numbers-small n r (l ∷ ls) d j = go (eqb (l .new .round) r) j (numbers-small (l .number) r ls (d .1))

@@ -1,5 +1,6 @@
 pub mod Lending
 pub mod Choosing
 pub mod Gathering
+pub mod Tabled
 pub mod Pairs
 pub mod Answers

@@ -1,13 +1,16 @@
--- Pairs written into parts of the output: the pairs written so far, and what lay behind them.
-use Prim.Native.Nat.{ℕ, zero, suc, _+_, _-_, _*_, _<_, _≤_}
-use mathlib.Core.Path.{_≡_, refl, ap, _∙_}
-use mathlib.Core.List.{List, [], _∷_, _++_, append-assoc}
+-- Pairs written into parts of the output: those written so far and those of the rounds to come are all pairs.
+use Prim.Native.Nat.{ℕ, suc, _+_, _-_, _<_, _≤_}
+use mathlib.Core.Path.{_≡_, refl, sym, ap, _∙_}
+use mathlib.Core.List.{List, [], _∷_, _++_, append-assoc, append-nil}
 use native.Mathlib.Omega.{arith}
 use native.Mathlib.Numerals.{add-one}
-use lib.ListN.{length, getD, take, drop, set, length-append, length-drop}
-use lib.Seq.{take-at, drop-at, drop-drop, take-length}
+use lib.ListN.{length, getD, drop, set, length-append, length-drop}
+use lib.Seq.{take-at, drop-at, drop-drop}
 use borrow.Rule.Slice.PartMut.{putMid}
-use Rattle.panel.specs.Slices.{pairs}
+use borrow.Author.Tests.{eq-eqb, ne-eqb}
+use Rattle.sheet.specs.Sheet.{mostRounds}
+use Rattle.selection.specs.Choice.{pair}
+use Rattle.panel.specs.Slices.{pairsFrom, pairs, withPairs}
 
 two-sets : (a b : ℕ) (l : List ℕ) → length l ≡ 2 → set (set l 0 a) 1 b ≡ a ∷ b ∷ []
 two-sets a b [] h = absurd (omega arith)
@@ -24,44 +27,65 @@ put-part done part old a e l h w =
     let n : a + (e - a) ≡ e = omega arith in
     rw (w, take-at done (drop a old) a l, drop-at done (drop a old) a l, drop-drop, n, append-assoc)
 
-length-pairs : (k : ℕ) (xs ys : List ℕ) → k ≤ length xs → k ≤ length ys → length (pairs (take k xs) (take k ys)) ≡ 2 * k
-length-pairs zero xs ys p q = refl
-length-pairs (suc k) [] ys p q = absurd (omega arith)
-length-pairs (suc k) (x ∷ xs) [] p q = absurd (omega arith)
-length-pairs (suc k) (x ∷ xs) (y ∷ ys) p q = omega (arith, length-pairs k xs ys (omega arith) (omega arith))
+-- the pairs of the rounds before r are written, and behind them lies what did
+pub record Written (ns os old out : List ℕ) (start r : ℕ) : Type 0 where
+  pub done : List ℕ
+  pub long : length done ≡ start
+  pub kept : length out ≡ length old
+  pub same : done ++ pairsFrom ns os r (mostRounds + 1 - r) ≡ pairs ns os
+  pub is : out ≡ done ++ drop start old
 
-pairs-more : (k : ℕ) (xs ys : List ℕ) → k < length xs → k < length ys
-    → pairs (take (suc k) xs) (take (suc k) ys) ≡ pairs (take k xs) (take k ys) ++ (getD xs k 0 ∷ getD ys k 0 ∷ [])
-pairs-more k [] ys p q = absurd (omega arith)
-pairs-more k (x ∷ xs) [] p q = absurd (omega arith)
-pairs-more zero (x ∷ xs) (y ∷ ys) p q = refl
-pairs-more (suc k) (x ∷ xs) (y ∷ ys) p q = ap (λ l. x ∷ y ∷ l) (pairs-more k xs ys (omega arith) (omega arith))
+pub written-none : (ns os old : List ℕ) → Written ns os old old 0 1
+written-none ns os old = record { done = []; long = refl; kept = refl; same = refl; is = refl }
 
--- the first k pairs are written
-pub record Written (xs ys old out : List ℕ) (k : ℕ) : Type 0 where
-  pub most : k ≤ length xs
-  pub long : length out ≡ length old
-  pub is : out ≡ pairs (take k xs) (take k ys) ++ drop (2 * k) old
+module _ {ns os old out : List ℕ} {start r : ℕ} (w : Written ns os old out start r) (h : r ≤ mostRounds) where
+  -- a round without an outcome
+  pub written-skip : getD os r 0 ≡ 0 → Written ns os old out start (r + 1)
+  unfolding pairsFrom
+  written-skip e =
+      let n : mostRounds + 1 - r ≡ suc (mostRounds + 1 - (r + 1)) = omega arith in
+      record { done = w .done; long = w .long; kept = w .kept; same = rw (n, eq-eqb (getD os r 0) 0 e, ← add-one r) at (w .same); is = w .is }
 
-pub written-none : (xs ys old : List ℕ) → Written xs ys old old 0
-written-none xs ys old = record { most = omega arith; long = refl; is = refl }
+  module _ (few : length (pairs ns os) ≤ length old) (o : getD os r 0 ≡ 0 → ⊥) where
+    -- one with an outcome has the next pair
+    next-pair : (w .done ++ pair r (getD ns r 0) (getD os r 0)) ++ pairsFrom ns os (r + 1) (mostRounds + 1 - (r + 1)) ≡ pairs ns os
+    unfolding pairsFrom
+    next-pair =
+        let n : mostRounds + 1 - r ≡ suc (mostRounds + 1 - (r + 1)) = omega arith in
+        append-assoc (w .done) (pair r (getD ns r 0) (getD os r 0)) (pairsFrom ns os (r + 1) (mostRounds + 1 - (r + 1)))
+        ∙ rw (n, ne-eqb (getD os r 0) 0 o, ← add-one r) at (w .same)
 
-module _ {xs ys old out : List ℕ} {k : ℕ} (same : length xs ≡ length ys) (room : 2 * length xs ≤ length old) where
-  pub written-turn : {part out′ : List ℕ} → k < length xs → Written xs ys old out k → part ≡ getD xs k 0 ∷ getD ys k 0 ∷ []
-      → out′ ≡ putMid (2 * k) (2 * k + 2 - 2 * k) out part → Written xs ys old out′ (k + 1)
-  written-turn {part} {out′} h w p e =
-      let n : 2 * k + 2 ≡ 2 * (k + 1) = omega arith in
-      let i : out′ ≡ pairs (take (k + 1) xs) (take (k + 1) ys) ++ drop (2 * (k + 1)) old =
-      e
-      ∙ put-part (pairs (take k xs) (take k ys)) part old (2 * k) (2 * k + 2) (length-pairs k xs ys (omega arith) (omega arith)) (omega arith) (w .is)
-      ∙ rw (p, n, add-one k, pairs-more k xs ys h (omega arith)) in
-      record {
-        most = omega arith;
-        long = rw (i, length-append, length-drop, length-pairs (k + 1) xs ys (omega arith) (omega arith)) (omega arith);
-        is = i;
-      }
+    -- for which there is room
+    pub room : start + 2 ≤ length out
+    room =
+        omega (
+          arith,
+          few,
+          ap length next-pair,
+          length-append (w .done ++ pair r (getD ns r 0) (getD os r 0)) (pairsFrom ns os (r + 1) (mostRounds + 1 - (r + 1))),
+          length-append (w .done) (pair r (getD ns r 0) (getD os r 0)),
+          w .long,
+          w .kept,
+        )
 
-pub written-end : {xs ys old out : List ℕ} {k : ℕ} → length xs ≡ length ys → length xs ≤ k → Written xs ys old out k → out ≡ pairs xs ys ++ drop (2 * length xs) old
-written-end {xs} {ys} {old} {out} {k} same h w =
-    let n : k ≡ length xs = omega (arith, w .most) in
-    w .is ∙ rw (n, take-length xs, same, take-length ys)
+    pub written-turn : {part out′ : List ℕ} → part ≡ pair r (getD ns r 0) (getD os r 0) → out′ ≡ putMid start (start + 2 - start) out part
+        → Written ns os old out′ (start + 2) (r + 1)
+    written-turn {part} {out′} p e =
+        let long : length (w .done ++ part) ≡ start + 2 = rw (p, length-append (w .done)) (omega (arith, w .long)) in
+        let is : out′ ≡ (w .done ++ part) ++ drop (start + 2) old =
+        e ∙ put-part (w .done) part old start (start + 2) (w .long) (omega arith) (w .is) in
+        record {
+          done = w .done ++ part;
+          long = long;
+          kept = rw (is, length-append (w .done ++ part), length-drop) (omega (arith, long, room, w .kept));
+          same = rw p next-pair;
+          is = is;
+        }
+
+-- behind the last round
+pub written-end : {ns os old out : List ℕ} {start r : ℕ} → mostRounds < r → Written ns os old out start r → out ≡ withPairs ns os old
+unfolding pairsFrom
+written-end {ns} {os} {old} {out} {start} {r} h w =
+    let n : mostRounds + 1 - r ≡ 0 = omega arith in
+    let e : w .done ≡ pairs ns os = sym (append-nil (w .done)) ∙ rw n at (w .same) in
+    w .is ∙ rw (← e, w .long)

@@ -2,7 +2,7 @@
 use Prim.Native.Nat.{ℕ, zero, suc, _+_, _/_, _%_, _-_, _^_, _≤_, _<_}
 use mathlib.Core.Path.{_≡_}
 use mathlib.Core.Bool.{Bool, cond, _&&_}
-use mathlib.Core.List.{List, [], _∷_, map}
+use mathlib.Core.List.{List, [], _∷_, _++_, map}
 use lib.Dec.{eqb, ltb}
 use lib.ListN.{length, getD, set, take, drop, replicate}
 use Rattle.round.specs.Slices.{lifts, Callable}
@@ -22,7 +22,7 @@ use Rattle.sheet.specs.Refusal.{refusal}
 use Rattle.sheet.specs.Reply.{Reply, ofRefusal, replied}
 use Rattle.sheet.specs.declared.Found.{Found}
 use Rattle.sheet.specs.declared.Found.the-variants.{At, Nothing}
-use Rattle.selection.specs.Choice.{further, Choice, Panel, chosen, short, roundWord, liftWord}
+use Rattle.selection.specs.Choice.{further, Choice, Panel, chosen, short, byRound, pair}
 use Rattle.panel.specs.declared.Senders.{Senders}
 use Rattle.panel.specs.declared.Senders.the-variants.{None, One, Two}
 use Rattle.panel.specs.declared.Picks.{Picks}
@@ -151,9 +151,9 @@ pub record Room (p : Picks) (r : ℕ) : Type 0 where
 abbrev pub picked : Picks → ℕ → ℕ → ℕ → ℕ → Picks
 picked p r n o next =
     record {
+      numbers = set (p .numbers) r n;
+      outcomes = set (p .outcomes) r o;
       count = p .count + 1;
-      firsts = set (p .firsts) (p .count) (roundWord r o);
-      seconds = set (p .seconds) (p .count) (liftWord n);
       next = next;
       short = 0;
     }
@@ -161,7 +161,7 @@ picked p r n o next =
 -- the choices after round r, from its lifts' numbers and its choice
 abbrev pub after : Picks → ℕ → List ℕ → Selected → Picks
 after p r ns (AtPlace i o next) = picked p r (getD ns i 0) o next
-after p r ns Short = record { count = p .count; firsts = p .firsts; seconds = p .seconds; next = p .next; short = r }
+after p r ns Short = record { numbers = p .numbers; outcomes = p .outcomes; count = p .count; next = p .next; short = r }
 
 -- a round without lifts is passed over
 unfoldable pub stepped : Lent → List ℕ → Picks → ℕ → Picks
@@ -179,34 +179,41 @@ steppedFrom x ws p r (suc n) = goOn (stepped x ws p r) (λ q. steppedFrom x ws q
 
 -- no choice yet
 abbrev pub noPicks : ℕ → Picks
-noPicks start = record { count = 0; firsts = replicate mostRounds 0; seconds = replicate mostRounds 0; next = start; short = 0 }
-
--- the two words of each choice
-abbrev pub firstWord : Choice → ℕ
-firstWord c = roundWord (c .round) (c .outcome)
-
-abbrev pub secondWord : Choice → ℕ
-secondWord c = liftWord (c .number)
+noPicks start =
+    record { numbers = replicate (mostRounds + 1) 0; outcomes = replicate (mostRounds + 1) 0; count = 0; next = start; short = 0 }
 
 -- the code's choices are those of the panel
 pub record Gathers (cs : List Choice) (behind : ℕ) (p : Picks) : Type 0 where
+  pub numbers : p .numbers ≡ byRound (λ c. c .number) cs (replicate (mostRounds + 1) 0)
+  pub outcomes : p .outcomes ≡ byRound (λ c. c .outcome) cs (replicate (mostRounds + 1) 0)
   pub count : p .count ≡ length cs
-  pub firsts : take (p .count) (p .firsts) ≡ map firstWord cs
-  pub seconds : take (p .count) (p .seconds) ≡ map secondWord cs
   pub next : p .next ≡ behind
   pub finished : p .short ≡ 0
-  pub long-firsts : length (p .firsts) ≡ mostRounds
-  pub long-seconds : length (p .seconds) ≡ mostRounds
 
 abbrev pub Picked : Panel → Picks → Type 0
 Picked (chosen cs next) p = Gathers cs next p
 Picked (short r) p = (0 < r) × (p .short ≡ r)
 
--- two lists word by word, one pair after the other
+-- ---- the output
+
+-- the pairs of those of n rounds from r up that have an outcome, from the numbers and outcomes by round
+unfoldable pub pairsFrom : List ℕ → List ℕ → ℕ → ℕ → List ℕ
+pairsFrom ns os r zero = []
+pairsFrom ns os r (suc n) = cond (eqb (getD os r 0) 0) [] (pair r (getD ns r 0) (getD os r 0)) ++ pairsFrom ns os (suc r) n
+
+-- those of all rounds
 abbrev pub pairs : List ℕ → List ℕ → List ℕ
-pairs [] bs = []
-pairs (a ∷ xs) [] = []
-pairs (a ∷ xs) (b ∷ bs) = a ∷ b ∷ pairs xs bs
+pairs ns os = pairsFrom ns os 1 mostRounds
+
+-- the output with the pairs, and behind them what it had
+abbrev pub withPairs : List ℕ → List ℕ → List ℕ → List ℕ
+withPairs ns os out = pairs ns os ++ drop (length (pairs ns os)) out
+
+-- the pairs have room in an output of so many words, and the numbers and outcomes in a pair
+pub record Writable (ns os : List ℕ) (room : ℕ) : Type 0 where
+  pub few : length (pairs ns os) ≤ room
+  pub numbers : Small ns
+  pub outcomes : (r : ℕ) → getD os r 0 ≤ 3
 
 -- ---- the answer
 
@@ -217,3 +224,11 @@ told (Start at) = ofRefusal (numbered 11 at)
 told (Output need) = ofRefusal (numbered 12 need)
 told (Words r) = ofRefusal (numbered 13 r)
 told (Chosen n k) = replied n k
+
+-- what choices reply: how many there are and how many words were read, or the round in which the words ended
+abbrev pub toldBy : Picks → ℕ → Reply
+toldBy p start = cond (eqb (p .short) 0) (replied (p .count) (p .next - start)) (ofRefusal (numbered 13 (p .short)))
+
+-- the output with their pairs, or as it was where the words ended
+abbrev pub writtenBy : Picks → List ℕ → List ℕ
+writtenBy p out = cond (eqb (p .short) 0) (withPairs (p .numbers) (p .outcomes) out) out

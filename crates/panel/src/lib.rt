@@ -1,8 +1,8 @@
 // The whole choice: one lift for each new round of a sheet ("The reply" and "Refused because of what was lent" of document 01).
 ghost use mathlib.Core.Path.{_≡_};
-ghost use mathlib.Core.List.{[], _∷_, _++_, map};
-ghost use Prim.Native.Nat.{_+_, _*_, _-_, _^_, _≤_, _<_};
-ghost use lib.ListN.{length, getD, take, drop};
+ghost use mathlib.Core.List.{[], map};
+ghost use Prim.Native.Nat.{_+_, _-_, _^_, _≤_, _<_};
+ghost use lib.ListN.{length, getD, take};
 ghost use Rattle.round.specs.Choice.{selected};
 ghost use Rattle.round.specs.Share.{heldOf};
 ghost use Rattle.round.specs.Slices.{Callable};
@@ -12,9 +12,9 @@ ghost use Rattle.sheet.specs.Tables.{fieldOf, startsOf, ByRound, first};
 ghost use Rattle.sheet.specs.Rounds.{those, inUse};
 ghost use Rattle.sheet.specs.Reply.{unlessRefused};
 ghost use Rattle.sheet.specs.Law.{Fitting};
-ghost use Rattle.selection.specs.Choice.{panel as panelOf, ofLent, writtenOf, reply, output};
+ghost use Rattle.selection.specs.Choice.{panel as panelOf, ofLent, pair, writtenOf, reply, output};
 ghost use Rattle.selection.specs.Fair.{Fair};
-ghost use Rattle.panel.specs.Slices.{bitAt, sendersOf, numberOf as numberFor, withTable, heldPlace, initialOf, heldBy, roundOf, Even, Within, lent, Ready, Room, Small, picked, after, stepped, steppedFrom, noPicks, pairs, Picked, told};
+ghost use Rattle.panel.specs.Slices.{bitAt, sendersOf, numberOf as numberFor, withTable, heldPlace, initialOf, heldBy, roundOf, Even, Within, lent, Ready, Room, Small, picked, after, stepped, steppedFrom, noPicks, Writable, withPairs, Picked, told, toldBy, writtenBy};
 use round::Donors;
 use round::Held;
 use round::Selected;
@@ -81,11 +81,12 @@ impl Answer {
     }
 }
 
-// The choices so far: how many, both words of each, and the next position; or the round in which the words ended, 0 if they did not.
+// The choices so far, by round: the lift's number and the outcome, both 0 where there is none; how many there are, and the next
+// position; or the round in which the words ended, 0 if they did not.
 struct Picks {
+    numbers: [u32; Sheet::TABLE],
+    outcomes: [u32; Sheet::TABLE],
     count: usize,
-    firsts: [u32; Sheet::MOST_ROUNDS],
-    seconds: [u32; Sheet::MOST_ROUNDS],
     next: usize,
     short: usize,
 }
@@ -276,18 +277,16 @@ fn pick(p: Picks, round: usize, number: u64, outcome: u32, next: usize) -> Picks
     requires { ⌜ p .count < mostRounds ⌝ }
     requires { ⌜ round ≤ mostRounds ⌝ }
     requires { ⌜ number < 2 ^ 28 ⌝ }
-    requires { ⌜ outcome ≤ 3 ⌝ }
     ensures { λ r. ⌜ r ≡ picked p round number outcome next ⌝ }
 {
-    let k = p.count;
-    let mut firsts = p.firsts;
-    let mut seconds = p.seconds;
-    firsts[k] = Sheet::word(CHOICE, Sheet::place(round as u32, outcome));
-    seconds[k] = Sheet::word(CHOSEN, number as u32);
+    let mut numbers = p.numbers;
+    let mut outcomes = p.outcomes;
+    numbers[round] = number as u32;
+    outcomes[round] = outcome;
     Picks {
-        count: k + 1,
-        firsts,
-        seconds,
+        numbers,
+        outcomes,
+        count: p.count + 1,
         next,
         short: 0,
     }
@@ -297,12 +296,12 @@ fn pick(p: Picks, round: usize, number: u64, outcome: u32, next: usize) -> Picks
 fn end_short(p: Picks, round: usize) -> Picks
     ensures { λ r. ⌜ r ≡ after p round [] Selected.Short ⌝ }
 {
-    let firsts = p.firsts;
-    let seconds = p.seconds;
+    let numbers = p.numbers;
+    let outcomes = p.outcomes;
     Picks {
+        numbers,
+        outcomes,
         count: p.count,
-        firsts,
-        seconds,
         next: p.next,
         short: round,
     }
@@ -401,9 +400,9 @@ fn select_rounds(
     ensures { λ r. ⌜ r ≡ steppedFrom (lent (now (number .entry)) (now (from .entry)) (now (old .entry)) (now (new .entry)) (now (held .entry)) (now (starts .entry)) (now (sums .entry)) (now (low .entry)) (now (high .entry))) (now (words .entry)) (noPicks start) 1 mostRounds ⌝ }
 {
     let mut p = Picks {
+        numbers: [0u32; Sheet::TABLE],
+        outcomes: [0u32; Sheet::TABLE],
         count: 0,
-        firsts: [0u32; Sheet::MOST_ROUNDS],
-        seconds: [0u32; Sheet::MOST_ROUNDS],
         next: start,
         short: 0,
     };
@@ -483,30 +482,53 @@ fn select_all(sheet: &[u32], lifts: usize, words: &[u64], start: usize) -> Picks
 
 // ---- the output
 
-// Writes the two words of a choice to its part of the output.
-fn write_pair(part: &mut [u32], first: u32, second: u32)
+// Writes the two words of a round's choice to its part of the output.
+fn write_pair(part: &mut [u32], round: usize, number: u32, outcome: u32)
     requires { ⌜ length (now part) ≡ 2 ⌝ }
-    ensures { λ _. ⌜ now (part .exit) ≡ first ∷ second ∷ [] ⌝ }
+    requires { ⌜ round ≤ mostRounds ⌝ }
+    requires { ⌜ number < 2 ^ 28 ⌝ }
+    requires { ⌜ outcome ≤ 3 ⌝ }
+    ensures { λ _. ⌜ now (part .exit) ≡ pair round number outcome ⌝ }
 {
-    part[0] = first;
-    part[1] = second;
+    part[0] = Sheet::word(CHOICE, Sheet::place(round as u32, outcome));
+    part[1] = Sheet::word(CHOSEN, number);
 }
 
-// Writes all choices, each to its own part of the output.
-fn write_pairs(firsts: &[u32], seconds: &[u32], out: &mut [u32])
-    requires { ⌜ length (now firsts) ≡ length (now seconds) ⌝ }
-    requires { ⌜ 2 * length (now firsts) ≤ length (now out) ⌝ }
-    ensures { λ _. ⌜ now (out .exit) ≡ pairs (now (firsts .entry)) (now (seconds .entry)) ++ drop (2 * length (now (firsts .entry))) (now (out .entry)) ⌝ }
+// Writes the choices of all rounds that have one, each to its own part of the output.
+fn write_pairs(numbers: &[u32; Sheet::TABLE], outcomes: &[u32; Sheet::TABLE], out: &mut [u32])
+    requires { ⌜ Writable (now numbers) (now outcomes) (length (now out)) ⌝ }
+    ensures { λ _. ⌜ now (out .exit) ≡ withPairs (now (numbers .entry)) (now (outcomes .entry)) (now (out .entry)) ⌝ }
 {
-    let mut k = 0;
-    while k < firsts.len() {
-        let a = firsts[k];
-        let b = seconds[k];
-        let start = 2 * k;
-        let end = start + 2;
-        write_pair(&mut out[start..end], a, b);
-        k += 1;
+    let mut start = 0;
+    let mut round = 1;
+    while round <= Sheet::MOST_ROUNDS {
+        let number = numbers[round];
+        let outcome = outcomes[round];
+        if outcome != 0 {
+            let end = start + 2;
+            write_pair(&mut out[start..end], round, number, outcome);
+            start = end;
+        }
+        round += 1;
     }
+}
+
+// Writes the choices and says how many there are and how many words were read; or the round in which the words ended, with nothing
+// written.
+fn finish(p: Picks, start: usize, out: &mut [u32]) -> Answer
+    requires { ⌜ (p .short ≡ 0 → Writable (p .numbers) (p .outcomes) (length (now out))) ⌝ }
+    requires { ⌜ (p .short ≡ 0 → start ≤ p .next) ⌝ }
+    ensures { λ r. ⌜ told r ≡ toldBy p start ⌝ }
+    ensures { λ _. ⌜ now (out .exit) ≡ writtenBy p (now (out .entry)) ⌝ }
+{
+    let short = p.short;
+    if short != 0 {
+        return Answer::Words(short);
+    }
+    let numbers = p.numbers;
+    let outcomes = p.outcomes;
+    write_pairs(&numbers, &outcomes, out);
+    Answer::Chosen(p.count, p.next - start)
 }
 
 // The answer to a fitting sheet of so many lifts and new rounds.
@@ -531,14 +553,7 @@ fn choose_fitting(
         return Answer::Output(need);
     }
     let picks = select_all(sheet, lifts, words, start);
-    if picks.short != 0 {
-        return Answer::Words(picks.short);
-    }
-    let count = picks.count;
-    let firsts = picks.firsts;
-    let seconds = picks.seconds;
-    write_pairs(&firsts[..count], &seconds[..count], out);
-    Answer::Chosen(count, picks.next - start)
+    finish(picks, start, out)
 }
 
 // The whole choice: refused, with nothing written and no word used up, or one lift for each new round, written as pairs.

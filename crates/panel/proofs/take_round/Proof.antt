@@ -1,11 +1,7 @@
 -- `panel::take_round` meets its contract: by the two cases of the round's choice. Assumes nothing.
 use mathlib.Core.Path.{sym, ap, _∙_}
 use native.Mathlib.Omega.{arith}
-use Rattle.draw.specs.Draw.{largest}
-use Rattle.draw.specs.Run.{run}
-use Rattle.round.specs.Choice.{plan}
-use Rattle.panel.specs.Slices.{heldBy, roundOf, picked, after}
-use Rattle.panel.proofs.Choosing.{outcome-small}
+use Rattle.panel.specs.Slices.{picked, after}
 use borrow.Author.Needs.{needs}
 use Rattle.panel.proofs.take_round.Statement.{statement}
 use Rattle.panel.proofs.take_round.Tie as tie
@@ -23,10 +19,7 @@ pick-requires : tie.Need-pick-requires
 pick-requires c κs =
     let s = c .before .before .before .before .before .before .before .before .before .before .before .before .before .before .before in
     let room = s .pre .1 .1 .0 in
-    let a = s .args in
-    let held = heldBy (a .s) (a .from .now) (a .held .now) in
-    let o = outcome-small held (run largest (a .words .now) (a .p .next) (plan (a .donors) (roundOf (a .s) (a .from .now) (a .old .now) (a .new .now)) held)) (sym (c .before .before .selected .given .1) ∙ c .before .before .before .before .before .before .select-round .ensures) in
-    (omega (arith, room .few, room .upto), (room .upto, (rw (c .number-at .ensures) (s .pre .1 .1 .1 .each (c .before .before .selected .given .0 .0)), o)))
+    (omega (arith, room .few, room .upto), (room .upto, rw (c .number-at .ensures) (s .pre .1 .1 .1 .each (c .before .before .selected .given .0 .0))))
 
 enum-told : tie.Need-enum-told
 enum-told c = search needs
