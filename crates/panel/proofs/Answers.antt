@@ -15,7 +15,7 @@ use Rattle.sheet.specs.Refusal.{refused, fits, verdict}
 use Rattle.sheet.specs.Reply.{Reply, ofRefusal, unlessRefused}
 use Rattle.sheet.proofs.Verdicts.{decided}
 use Rattle.sheet.specs.declared.Side.the-variants.{New}
-use Rattle.selection.specs.Choice.{Choice, Panel, chosen, short, panel, ofPanel, ofLent, reply, written, writtenOf, output}
+use Rattle.selection.specs.Choice.{Choice, Panel, chosen, short, panel, ofPanel, unlessLacking, ofLent, reply, written, writtenOf, output}
 use Rattle.selection.proofs.Steps.{Steps, steps, steps-count}
 use Rattle.panel.specs.Slices.{Gathers, Picked, pairs, Writable, toldBy, writtenBy}
 use Rattle.panel.specs.declared.Picks.{Picks}
@@ -53,7 +53,7 @@ module _ (ls : List Lift) (ws : List ℕ) (start : ℕ) (p : Picks) (d : Picked 
 
   module _ (f : Fit ls) where
     -- the choices' rounds rise
-    rise : {cs : List Choice} {next : ℕ} → Steps ls ws start (inUse New ls) cs next → Rises 1 cs
+    pub rise : {cs : List Choice} {next : ℕ} → Steps ls ws start (inUse New ls) cs next → Rises 1 cs
     rise k = steps-rise (f .listable .listed) k 1 (those-rise (λ r. r ≤ mostRounds) (λ r. ltb 0 (named New r ls)) 1 mostRounds (λ r l m e. omega arith))
 
     pairs-are : {cs : List Choice} {next : ℕ} → Gathers cs next p → Steps ls ws start (inUse New ls) cs next → pairs (p .numbers) (p .outcomes) ≡ written cs []
@@ -86,26 +86,32 @@ pub left : (x : Numbered) {y : Reply} (out new : List ℕ) → 0 < x .number →
 left x out new h e = (e, rw (← e, ne-eqb (x .number) 0 (λ z. omega (arith, z, h))))
 
 -- and so does a panel whose words ended
-left-panel : (start : ℕ) (x : Panel) (out : List ℕ) → writtenOf x out ≡ unlessRefused (ofPanel start x) out (writtenOf x out)
+pub left-panel : (start : ℕ) (x : Panel) (out : List ℕ) → writtenOf x out ≡ unlessRefused (ofPanel start x) out (writtenOf x out)
 left-panel start (chosen cs next) out = refl
 left-panel start (short r) out = refl
 
 pub few-rounds : (ls : List Lift) → length (inUse New ls) ≤ mostRounds
 few-rounds ls = those-few (λ r. ltb 0 (named New r ls)) 1 mostRounds
 
-module _ (ls : List Lift) (ws : List ℕ) (start : ℕ) (out : List ℕ) where
-  pub late : (n : ℕ) → length ws < start → ofRefusal (numbered 11 start) ≡ ofLent ls n ws start (length out)
-  late n h = rw (lt-ltb (length ws) start h)
+-- 11, 12, or what follows
+module _ (n : ℕ) (ws : List ℕ) (start room : ℕ) (otherwise : Reply) where
+  pub late : length ws < start → ofRefusal (numbered 11 start) ≡ unlessLacking n ws start room otherwise
+  late h = rw (lt-ltb (length ws) start h)
 
-  module _ (n : ℕ) (a : start ≤ length ws) where
-    pub narrow : length out < 2 * n → ofRefusal (numbered 12 (2 * n)) ≡ ofLent ls n ws start (length out)
-    narrow h = rw (le-ltb (length ws) start a, lt-ltb (length out) (2 * n) h)
+  module _ (a : start ≤ length ws) where
+    pub narrow : room < 2 * n → ofRefusal (numbered 12 (2 * n)) ≡ unlessLacking n ws start room otherwise
+    narrow h = rw (le-ltb (length ws) start a, lt-ltb room (2 * n) h)
 
-    pub through : 2 * n ≤ length out → (p : Picks) → Picked (panel ls ws start) p → Fit ls → {y : Reply} {out′ : List ℕ} → y ≡ toldBy p start → out′ ≡ writtenBy p out
-        → (y ≡ ofLent ls n ws start (length out)) × (out′ ≡ unlessRefused (ofLent ls n ws start (length out)) out (writtenOf (panel ls ws start) out))
-    through b p d f e g =
-        rw (le-ltb (length ws) start a, le-ltb (length out) (2 * n) b)
-        (e ∙ told-panel ls ws start p d, g ∙ written-panel ls ws start p d f out ∙ left-panel start (panel ls ws start) out)
+    pub enough : 2 * n ≤ room → otherwise ≡ unlessLacking n ws start room otherwise
+    enough h = rw (le-ltb (length ws) start a, le-ltb room (2 * n) h)
+
+-- where the lists that were lent suffice, both are the panel's
+pub through : (ls : List Lift) (ws : List ℕ) (start : ℕ) (out : List ℕ) (n : ℕ) → start ≤ length ws → 2 * n ≤ length out
+    → (p : Picks) → Picked (panel ls ws start) p → Fit ls → {y : Reply} {out′ : List ℕ} → y ≡ toldBy p start → out′ ≡ writtenBy p out
+    → (y ≡ ofLent ls n ws start (length out)) × (out′ ≡ unlessRefused (ofLent ls n ws start (length out)) out (writtenOf (panel ls ws start) out))
+through ls ws start out n a b p d f e g =
+    let x = panel ls ws start in
+    rw (← enough n ws start (length out) (ofPanel start x) a b) (e ∙ told-panel ls ws start p d, g ∙ written-panel ls ws start p d f out ∙ left-panel start x out)
 
 -- ---- the whole sheet
 

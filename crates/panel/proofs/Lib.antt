@@ -4,3 +4,5 @@ pub mod Gathering
 pub mod Tabled
 pub mod Pairs
 pub mod Answers
+pub mod Carried
+pub mod Nexts

@@ -93,7 +93,7 @@ pub tabled-each : (P : ℕ → Type 0) (f : Choice → ℕ) → ((c : Choice) �
 tabled-each P f h z cs d = byRound-each P f h 1 cs d (replicate (mostRounds + 1) 0) (λ i. rw (nothing (mostRounds + 1) i) z)
 
 -- a place below the rounds keeps what it had
-byRound-below : (f : Choice → ℕ) (a : ℕ) (cs : List Choice) → Rises a cs → (xs : List ℕ) (r : ℕ) → r < a → getD (byRound f cs xs) r 0 ≡ getD xs r 0
+pub byRound-below : (f : Choice → ℕ) (a : ℕ) (cs : List Choice) → Rises a cs → (xs : List ℕ) (r : ℕ) → r < a → getD (byRound f cs xs) r 0 ≡ getD xs r 0
 unfolding byRound
 byRound-below f a [] d xs r h = refl
 byRound-below f a (c ∷ cs) d xs r h =
@@ -101,7 +101,7 @@ byRound-below f a (c ∷ cs) d xs r h =
     ∙ getD-set-other xs (c .round) r (f c) 0 (λ e. omega (arith, e, d .0))
 
 -- the first round's place has its choice's value
-byRound-first : (f : Choice → ℕ) (c : Choice) (cs : List Choice) → Rises (suc (c .round)) cs → (xs : List ℕ) → c .round < length xs
+pub byRound-first : (f : Choice → ℕ) (c : Choice) (cs : List Choice) → Rises (suc (c .round)) cs → (xs : List ℕ) → c .round < length xs
     → getD (byRound f (c ∷ cs) xs) (c .round) 0 ≡ f c
 unfolding byRound
 byRound-first f c cs d xs h =

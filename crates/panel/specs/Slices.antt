@@ -15,7 +15,7 @@ use Rattle.round.specs.Choice.{selected}
 use Rattle.round.specs.declared.Lift.{Lift as RoundLift}
 use Rattle.round.specs.declared.Selected.{Selected}
 use Rattle.round.specs.declared.Selected.the-variants.{At as AtPlace, Short}
-use Rattle.sheet.specs.Sheet.{mostRounds}
+use Rattle.sheet.specs.Sheet.{mostRounds, Lift, sheetOf}
 use Rattle.sheet.specs.Reading.{numbered}
 use Rattle.sheet.specs.Rounds.{those}
 use Rattle.sheet.specs.Refusal.{refusal}
@@ -23,11 +23,12 @@ use Rattle.sheet.specs.Reply.{Reply, ofRefusal, replied}
 use Rattle.sheet.specs.declared.Found.{Found}
 use Rattle.sheet.specs.declared.Found.the-variants.{At, Nothing}
 use Rattle.selection.specs.Choice.{further, Choice, Panel, chosen, short, byRound, pair}
+use Rattle.carry.specs.Next.{carriedOn, onto, inTable}
 use Rattle.panel.specs.declared.Senders.{Senders}
 use Rattle.panel.specs.declared.Senders.the-variants.{None, One, Two}
 use Rattle.panel.specs.declared.Picks.{Picks}
 use Rattle.panel.specs.declared.Answer.{Answer}
-use Rattle.panel.specs.declared.Answer.the-variants.{Sheet, Start, Output, Words, Chosen}
+use Rattle.panel.specs.declared.Answer.the-variants.{Sheet, Start, Output, Next, Words, Chosen}
 
 -- whether bit t is set in two words of 64 bits
 abbrev pub bitAt : ℕ → ℕ → ℕ → Bool
@@ -222,6 +223,7 @@ abbrev pub told : Answer → Reply
 told (Sheet x) = ofRefusal (refusal x)
 told (Start at) = ofRefusal (numbered 11 at)
 told (Output need) = ofRefusal (numbered 12 need)
+told (Next need) = ofRefusal (numbered 17 need)
 told (Words r) = ofRefusal (numbered 13 r)
 told (Chosen n k) = replied n k
 
@@ -232,3 +234,13 @@ toldBy p start = cond (eqb (p .short) 0) (replied (p .count) (p .next - start)) 
 -- the output with their pairs, or as it was where the words ended
 abbrev pub writtenBy : Picks → List ℕ → List ℕ
 writtenBy p out = cond (eqb (p .short) 0) (withPairs (p .numbers) (p .outcomes) out) out
+
+-- ---- next quarter's sheet
+
+-- the sheet with the held marks that the choices by round give
+abbrev pub sheetBy : Picks → List Lift → List ℕ
+sheetBy p ls = sheetOf (carriedOn (inTable (p .numbers)) ls)
+
+-- a lent sheet with it, or as it was where the words ended
+abbrev pub carriedBy : Picks → List Lift → List ℕ → List ℕ
+carriedBy p ls next = cond (eqb (p .short) 0) (onto (sheetBy p ls) next) next

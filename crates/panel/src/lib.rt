@@ -14,7 +14,10 @@ ghost use Rattle.sheet.specs.Reply.{unlessRefused};
 ghost use Rattle.sheet.specs.Law.{Fitting};
 ghost use Rattle.selection.specs.Choice.{panel as panelOf, ofLent, pair, writtenOf, reply, output};
 ghost use Rattle.selection.specs.Fair.{Fair};
-ghost use Rattle.panel.specs.Slices.{bitAt, sendersOf, numberOf as numberFor, withTable, heldPlace, initialOf, heldBy, roundOf, Even, Within, lent, Ready, Room, Small, picked, after, stepped, steppedFrom, noPicks, Writable, withPairs, Picked, told, toldBy, writtenBy};
+ghost use Rattle.carry.specs.Next.{remaining};
+ghost use Rattle.carry.specs.Reply.{ofLent as ofLentNext, reply as replyNext, output as outputNext, carriedTo, nextOutput};
+ghost use Rattle.carry.specs.Law.{CarriesAll};
+ghost use Rattle.panel.specs.Slices.{bitAt, sendersOf, numberOf as numberFor, withTable, heldPlace, initialOf, heldBy, roundOf, Even, Within, lent, Ready, Room, Small, picked, after, stepped, steppedFrom, noPicks, Writable, withPairs, Picked, told, toldBy, writtenBy, sheetBy, carriedBy};
 use round::Donors;
 use round::Held;
 use round::Selected;
@@ -30,12 +33,13 @@ const CHOICE: u32 = 5;
 
 const CHOSEN: u32 = 6;
 
-// The answer to a sheet and what was lent: refused because of the sheet, the start position, the words that the output must have, the
-// round in which the random words ended; or how many choices and how many words were read.
+// The answer to a sheet and what was lent: refused because of the sheet, the start position, the words that the output must have, those
+// that the lent sheet must have, the round in which the random words ended; or how many choices and how many words were read.
 pub enum Answer {
     Sheet(Refusal),
     Start(usize),
     Output(usize),
+    Next(usize),
     Words(usize),
     Chosen(usize, usize),
 }
@@ -49,6 +53,7 @@ impl Answer {
             Answer::Sheet(x) => x.number(),
             Answer::Start(_) => 11,
             Answer::Output(_) => 12,
+            Answer::Next(_) => 17,
             Answer::Words(_) => 13,
             Answer::Chosen(_, _) => 0,
         }
@@ -62,6 +67,7 @@ impl Answer {
             Answer::Sheet(x) => x.place(),
             Answer::Start(at) => at,
             Answer::Output(need) => need,
+            Answer::Next(need) => need,
             Answer::Words(round) => round,
             Answer::Chosen(choices, _) => choices,
         }
@@ -75,6 +81,7 @@ impl Answer {
             Answer::Sheet(_) => 0,
             Answer::Start(_) => 0,
             Answer::Output(_) => 0,
+            Answer::Next(_) => 0,
             Answer::Words(_) => 0,
             Answer::Chosen(_, words) => words,
         }
@@ -570,5 +577,75 @@ pub fn choose(sheet: &[u32], words: &[u64], start: usize, out: &mut [u32]) -> An
             let rounds = s.rounds;
             choose_fitting(sheet, lifts, rounds, words, start, out)
         }
+    }
+}
+
+// ---- with next quarter's sheet
+
+// Writes next quarter's sheet, unless the words ended: so many lifts remain in it.
+fn write_next(sheet: &[u32], p: Picks, lifts: usize, next: &mut [u32])
+    requires { ⌜ Legible (now sheet) ⌝ }
+    requires { ⌜ lifts ≡ length (remaining (liftsOfSheet (now sheet))) ⌝ }
+    requires { ⌜ (p .short ≡ 0 → length (sheetBy p (liftsOfSheet (now sheet))) ≤ length (now next)) ⌝ }
+    ensures { λ _. ⌜ now (next .exit) ≡ carriedBy p (liftsOfSheet (now (sheet .entry))) (now (next .entry)) ⌝ }
+{
+    if p.short == 0 {
+        let numbers = p.numbers;
+        carry::write(sheet, &numbers, lifts, next);
+    }
+}
+
+// The answer to a fitting sheet, with next quarter's sheet.
+fn choose_next_fitting(
+    sheet: &[u32],
+    fitting: Sheet,
+    words: &[u64],
+    start: usize,
+    out: &mut [u32],
+    next: &mut [u32],
+) -> Answer
+    requires { ⌜ Fitting (now sheet) ⌝ }
+    requires { ⌜ (fitting .lifts ≡ length (liftsOfSheet (now sheet))) × (fitting .rounds ≡ length (inUse Side.New (liftsOfSheet (now sheet)))) ⌝ }
+    ensures { λ r. ⌜ told r ≡ ofLentNext (liftsOfSheet (now (sheet .entry))) (fitting .rounds) (now (words .entry)) start (length (now (out .entry))) (length (now (next .entry))) ⌝ }
+    ensures { λ _. ⌜ now (out .exit) ≡ unlessRefused (ofLentNext (liftsOfSheet (now (sheet .entry))) (fitting .rounds) (now (words .entry)) start (length (now (out .entry))) (length (now (next .entry)))) (now (out .entry)) (writtenOf (panelOf (liftsOfSheet (now (sheet .entry))) (now (words .entry)) start) (now (out .entry))) ⌝ }
+    ensures { λ _. ⌜ now (next .exit) ≡ unlessRefused (ofLentNext (liftsOfSheet (now (sheet .entry))) (fitting .rounds) (now (words .entry)) start (length (now (out .entry))) (length (now (next .entry)))) (now (next .entry)) (carriedTo (panelOf (liftsOfSheet (now (sheet .entry))) (now (words .entry)) start) (liftsOfSheet (now (sheet .entry))) (now (next .entry))) ⌝ }
+{
+    if words.len() < start {
+        return Answer::Start(start);
+    }
+    let rounds = fitting.rounds;
+    let need = 2 * rounds;
+    if out.len() < need {
+        return Answer::Output(need);
+    }
+    let lifts = carry::remaining(sheet, fitting.lifts);
+    let space = 3 * lifts + rounds + 1;
+    if next.len() < space {
+        return Answer::Next(space);
+    }
+    let picks = select_all(sheet, fitting.lifts, words, start);
+    write_next(sheet, picks, lifts, next);
+    finish(picks, start, out)
+}
+
+// The whole choice and next quarter's sheet: refused, with nothing written and no word used up; or one lift for each new round, written
+// as pairs to `out` and as held marks to `next`.
+pub fn choose_next(
+    sheet: &[u32],
+    words: &[u64],
+    start: usize,
+    out: &mut [u32],
+    next: &mut [u32],
+) -> Answer
+    ensures replied { λ r. ⌜ told r ≡ replyNext (now (sheet .entry)) (now (words .entry)) start (length (now (out .entry))) (length (now (next .entry))) ⌝ }
+    ensures written { λ _. ⌜ now (out .exit) ≡ outputNext (now (sheet .entry)) (now (words .entry)) start (now (out .entry)) (length (now (next .entry))) ⌝ }
+    ensures carried { λ _. ⌜ now (next .exit) ≡ nextOutput (now (sheet .entry)) (now (words .entry)) start (length (now (out .entry))) (now (next .entry)) ⌝ }
+    ensures carries { λ _. ⌜ (Fitting (now (sheet .entry)) → CarriesAll (liftsOfSheet (now (sheet .entry)))) ⌝ }
+    ensures fair { λ _. ⌜ (Fitting (now (sheet .entry)) → Fair (liftsOfSheet (now (sheet .entry)))) ⌝ }
+{
+    let checked = sheet::check(sheet);
+    match checked {
+        Checked::Refused(x) => Answer::Sheet(x),
+        Checked::Fits(fitting) => choose_next_fitting(sheet, fitting, words, start, out, next),
     }
 }

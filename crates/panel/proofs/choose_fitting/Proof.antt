@@ -12,7 +12,7 @@ use Rattle.panel.proofs.choose_fitting.Tie as tie
 returns : tie.Need-returns
 returns c =
     let a = c .before .before .before .before .args in
-    left (numbered 11 _) (a .out .now) _ (omega arith) (late (lifts (a .sheet .now)) (a .words .now) (a .start) (a .out .now) (a .rounds) (c .if1 .taken))
+    left (numbered 11 _) (a .out .now) _ (omega arith) (late (a .rounds) (a .words .now) (a .start) (length (a .out .now)) _ (c .if1 .taken))
 
 mul-need : tie.Need-mul-need
 mul-need c = omega (arith, c .before .before .before .before .pre .1 .1, few-rounds (lifts (c .before .before .before .before .args .sheet .now)))
@@ -20,7 +20,7 @@ mul-need c = omega (arith, c .before .before .before .before .pre .1 .1, few-rou
 returns-2 : tie.Need-returns-2
 returns-2 c =
     let a = c .before .before .before .before .before .args in
-    left (numbered 12 _) (a .out .now) _ (omega arith) (narrow (lifts (a .sheet .now)) (a .words .now) (a .start) (a .out .now) (a .rounds) (c .before .if1 .left) (c .if2 .taken))
+    left (numbered 12 _) (a .out .now) _ (omega arith) (narrow (a .rounds) (a .words .now) (a .start) (length (a .out .now)) _ (c .before .if1 .left) (c .if2 .taken))
 
 select-all-requires : tie.Need-select-all-requires
 select-all-requires c κs = (c .before .before .before .before .before .pre .0, c .before .before .before .before .before .pre .1 .0)

@@ -1,0 +1,60 @@
+-- `panel::choose_next` meets its contract: what the check ensures, by the two cases of its answer; the promises of the next sheet are
+-- `carries`, demand 3 is `fair`. Assumes nothing.
+use mathlib.Core.Path.{sym, ap, _∙_}
+use Rattle.sheet.specs.Sheet.{lifts}
+use Rattle.sheet.specs.Refusal.{told as checked}
+use Rattle.sheet.proofs.Verdicts.{decided, fit}
+use Rattle.selection.proofs.Fair.{fair}
+use Rattle.carry.proofs.Carrying.{carries}
+use Rattle.panel.proofs.Nexts.{at-sheet, at-fitting}
+use borrow.Author.Needs.{needs}
+use Rattle.panel.proofs.choose_next.Statement.{statement}
+use Rattle.panel.proofs.choose_next.Tie as tie
+
+check-requires : tie.Need-check-requires
+check-requires c κs = search needs
+
+enum-known-checked : tie.Need-enum-known-checked
+enum-known-checked c = search needs
+
+enum-known-checked-2 : tie.Need-enum-known-checked-2
+enum-known-checked-2 c = search needs
+
+choose-next-fitting-requires : tie.Need-choose-next-fitting-requires
+choose-next-fitting-requires c κs =
+    let x = decided (c .before .before .before .before .before .before .before .before .before .before .args .sheet .now) .only _ _ (sym (c .before .before .before .before .before .check .ensures) ∙ ap checked (c .before .before .before .checked2 .given .1)) in
+    (x .0, (x .1, x .2))
+
+returns : tie.Need-returns
+returns c =
+    let a = c .before .before .before .before .before .before .before .before .args in
+    let e = at-sheet (a .sheet .now) (a .words .now) (a .start) (a .out .now) (a .next .now) (sym (ap checked (c .before .checked .given .1)) ∙ c .before .before .before .check .ensures) in
+    (e .0, (e .1 .0, (e .1 .1, (λ f. carries (lifts (a .sheet .now)) (fit f), λ f. fair (lifts (a .sheet .now)) (fit f)))))
+
+same-length : tie.Need-same-length
+same-length c = search needs
+
+same-length-2 : tie.Need-same-length-2
+same-length-2 c = search needs
+
+returns-2 : tie.Need-returns-2
+returns-2 c =
+    let a = c .before .before .before .before .before .before .before .before .before .before .before .before .before .before .before .args in
+    let r = c .before .before .before .before .choose-next-fitting .ensures in
+    let e =
+    at-fitting (a .sheet .now) (a .words .now) (a .start) (a .out .now) (a .next .now)
+    (sym (ap checked (c .before .before .before .before .before .before .before .before .checked2 .given .1)) ∙ c .before .before .before .before .before .before .before .before .before .before .check .ensures) (r .0) (r .1 .0) (r .1 .1) in
+    (e .0, (e .1 .0, (e .1 .1, (λ f. carries (lifts (a .sheet .now)) (fit f), λ f. fair (lifts (a .sheet .now)) (fit f)))))
+
+pub choose-next-spec : {M : Type 1} → statement M
+choose-next-spec =
+    tie.close
+    (tie.spec
+    check-requires
+    enum-known-checked
+    enum-known-checked-2
+    choose-next-fitting-requires
+    returns
+    same-length
+    same-length-2
+    returns-2)
