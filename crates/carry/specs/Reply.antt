@@ -14,7 +14,7 @@ use Rattle.carry.specs.Next.{nextSheet, wordsNeeded, onto}
 -- "17 when the lent sheet has too few words; place the words needed, after 12 and before 13."
 abbrev pub ofLent : List Lift → ℕ → List ℕ → (start room space : ℕ) → Reply
 ofLent ls rounds ws start room space =
-    unlessLacking rounds ws start room
+    unlessLacking rounds (length ws) start room
     (cond (ltb space (wordsNeeded ls rounds)) (ofRefusal (numbered 17 (wordsNeeded ls rounds))) (ofPanel start (panel ls ws start)))
 
 -- the reply to a sheet, random words, a start position, an output of so many words and a lent sheet of so many

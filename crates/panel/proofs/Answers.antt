@@ -1,18 +1,19 @@
 -- The answer to a fitting sheet and the output: one law for each way out.
 use Prim.Native.Nat.{ℕ, _*_, _^_, _≤_, _<_}
 use mathlib.Core.Path.{_≡_, refl, sym, ap, _∙_}
+use mathlib.Core.Bool.{Bool, true, false, cond}
 use mathlib.Core.List.{List, []}
 use native.Mathlib.Omega.{arith}
 use lib.Dec.{ltb}
 use lib.ListN.{length}
-use borrow.Author.Tests.{eq-eqb, ne-eqb, lt-ltb, le-ltb}
+use borrow.Author.Tests.{eq-eqb, ne-eqb, ltb-false, lt-ltb, le-ltb}
 use Rattle.sheet.specs.Sheet.{mostRounds, Lift, lifts}
 use Rattle.sheet.specs.Reading.{Numbered, numbered}
 use Rattle.sheet.specs.Rounds.{named, inUse}
 use Rattle.sheet.specs.Law.{Fit}
 use Rattle.sheet.proofs.Those.{those-few, those-rise}
 use Rattle.sheet.specs.Refusal.{refused, fits, verdict}
-use Rattle.sheet.specs.Reply.{Reply, ofRefusal, unlessRefused}
+use Rattle.sheet.specs.Reply.{Reply, replied, ofRefusal, unlessRefused}
 use Rattle.sheet.proofs.Verdicts.{decided}
 use Rattle.sheet.specs.declared.Side.the-variants.{New}
 use Rattle.selection.specs.Choice.{Choice, Panel, chosen, short, panel, ofPanel, unlessLacking, ofLent, reply, written, writtenOf, output}
@@ -82,8 +83,8 @@ module _ (ls : List Lift) (ws : List ℕ) (start : ℕ) (p : Picks) (d : Picked 
 -- ---- the ways out
 
 -- a refusal leaves the output
-pub left : (x : Numbered) {y : Reply} (out new : List ℕ) → 0 < x .number → ofRefusal x ≡ y → (ofRefusal x ≡ y) × (out ≡ unlessRefused y out new)
-left x out new h e = (e, rw (← e, ne-eqb (x .number) 0 (λ z. omega (arith, z, h))))
+pub left : {y z : Reply} (out new : List ℕ) → (y .number ≡ 0 → ⊥) → y ≡ z → (y ≡ z) × (out ≡ unlessRefused z out new)
+left {y} out new h e = (e, rw (← e, ne-eqb (y .number) 0 h))
 
 -- and so does a panel whose words ended
 pub left-panel : (start : ℕ) (x : Panel) (out : List ℕ) → writtenOf x out ≡ unlessRefused (ofPanel start x) out (writtenOf x out)
@@ -93,25 +94,45 @@ left-panel start (short r) out = refl
 pub few-rounds : (ls : List Lift) → length (inUse New ls) ≤ mostRounds
 few-rounds ls = those-few (λ r. ltb 0 (named New r ls)) 1 mostRounds
 
--- 11, 12, or what follows
-module _ (n : ℕ) (ws : List ℕ) (start room : ℕ) (otherwise : Reply) where
-  pub late : length ws < start → ofRefusal (numbered 11 start) ≡ unlessLacking n ws start room otherwise
-  late h = rw (lt-ltb (length ws) start h)
+-- 11 or 12, or else what follows: nothing is lacking where the number is 0
+module _ (n words start room : ℕ) where
+  pub late : (otherwise : Reply) → words < start → ofRefusal (numbered 11 start) ≡ unlessLacking n words start room otherwise
+  late otherwise h = rw (lt-ltb words start h)
 
-  module _ (a : start ≤ length ws) where
-    pub narrow : room < 2 * n → ofRefusal (numbered 12 (2 * n)) ≡ unlessLacking n ws start room otherwise
-    narrow h = rw (le-ltb (length ws) start a, lt-ltb room (2 * n) h)
+  module _ (a : start ≤ words) where
+    pub narrow : (otherwise : Reply) → room < 2 * n → ofRefusal (numbered 12 (2 * n)) ≡ unlessLacking n words start room otherwise
+    narrow otherwise h = rw (le-ltb words start a, lt-ltb room (2 * n) h)
 
-    pub enough : 2 * n ≤ room → otherwise ≡ unlessLacking n ws start room otherwise
-    enough h = rw (le-ltb (length ws) start a, le-ltb room (2 * n) h)
+    pub enough : (otherwise : Reply) → 2 * n ≤ room → otherwise ≡ unlessLacking n words start room otherwise
+    enough otherwise h = rw (le-ltb words start a, le-ltb room (2 * n) h)
+
+  -- what lacks is told whatever follows
+  pub lacks : (y otherwise : Reply) → y ≡ unlessLacking n words start room (replied 0 0) → (y .number ≡ 0 → ⊥) → y ≡ unlessLacking n words start room otherwise
+  lacks y otherwise e h = e ∙ go (ltb words start) (ltb room (2 * n)) (λ q. h (ap (λ r. r .number) e ∙ q))
+    where
+      go : (s t : Bool) → (cond s (ofRefusal (numbered 11 start)) (cond t (ofRefusal (numbered 12 (2 * n))) (replied 0 0)) .number ≡ 0 → ⊥)
+          → cond s (ofRefusal (numbered 11 start)) (cond t (ofRefusal (numbered 12 (2 * n))) (replied 0 0))
+          ≡ cond s (ofRefusal (numbered 11 start)) (cond t (ofRefusal (numbered 12 (2 * n))) otherwise)
+      go true t h = refl
+      go false true h = refl
+      go false false h = absurd (h refl)
+
+  pub suffices : (y : Reply) → y ≡ unlessLacking n words start room (replied 0 0) → y .number ≡ 0 → (start ≤ words) × (2 * n ≤ room)
+  suffices y e z = go (ltb words start) refl (ltb room (2 * n)) refl (ap (λ r. r .number) (sym e) ∙ z)
+    where
+      go : (s : Bool) → ltb words start ≡ s → (t : Bool) → ltb room (2 * n) ≡ t
+          → cond s (ofRefusal (numbered 11 start)) (cond t (ofRefusal (numbered 12 (2 * n))) (replied 0 0)) .number ≡ 0 → (start ≤ words) × (2 * n ≤ room)
+      go true p t q f = absurd (omega arith)
+      go false p true q f = absurd (omega arith)
+      go false p false q f = (ltb-false words start p, ltb-false room (2 * n) q)
 
 -- where the lists that were lent suffice, both are the panel's
-pub through : (ls : List Lift) (ws : List ℕ) (start : ℕ) (out : List ℕ) (n : ℕ) → start ≤ length ws → 2 * n ≤ length out
+pub through : (ls : List Lift) (ws : List ℕ) (start : ℕ) (out : List ℕ) (n : ℕ) → (start ≤ length ws) × (2 * n ≤ length out)
     → (p : Picks) → Picked (panel ls ws start) p → Fit ls → {y : Reply} {out′ : List ℕ} → y ≡ toldBy p start → out′ ≡ writtenBy p out
     → (y ≡ ofLent ls n ws start (length out)) × (out′ ≡ unlessRefused (ofLent ls n ws start (length out)) out (writtenOf (panel ls ws start) out))
-through ls ws start out n a b p d f e g =
+through ls ws start out n a p d f e g =
     let x = panel ls ws start in
-    rw (← enough n ws start (length out) (ofPanel start x) a b) (e ∙ told-panel ls ws start p d, g ∙ written-panel ls ws start p d f out ∙ left-panel start x out)
+    rw (← enough n (length ws) start (length out) (a .0) (ofPanel start x) (a .1)) (e ∙ told-panel ls ws start p d, g ∙ written-panel ls ws start p d f out ∙ left-panel start x out)
 
 -- ---- the whole sheet
 
@@ -119,7 +140,7 @@ through ls ws start out n a b p d f e g =
 module _ (sheet ws : List ℕ) (start : ℕ) (out : List ℕ) where
   pub at-sheet : {x : Numbered} → refused x ≡ verdict sheet → (ofRefusal x ≡ reply sheet ws start (length out)) × (out ≡ output sheet ws start out)
   unfolding reply output
-  at-sheet {x} e = rw (← e) (left x out _ (decided sheet .above x (sym e)) refl)
+  at-sheet {x} e = rw (← e) (left out _ (λ z. omega (arith, z, decided sheet .above x (sym e))) refl)
 
   pub at-fitting : {n k : ℕ} {y : Reply} {out′ : List ℕ} → fits n k ≡ verdict sheet → y ≡ ofLent (lifts sheet) k ws start (length out)
       → out′ ≡ unlessRefused (ofLent (lifts sheet) k ws start (length out)) out (writtenOf (panel (lifts sheet) ws start) out)

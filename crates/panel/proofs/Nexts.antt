@@ -24,9 +24,9 @@ use Rattle.panel.proofs.Answers.{told-panel, rise, written-panel, left,
 use Rattle.panel.proofs.Carried.{table-next}
 
 -- a refusal leaves both
-pub both-left : (x : Numbered) {y : Reply} (out new next newer : List ℕ) → 0 < x .number → ofRefusal x ≡ y
-    → (ofRefusal x ≡ y) × ((out ≡ unlessRefused y out new) × (next ≡ unlessRefused y next newer))
-both-left x out new next newer h e = (e, (left x out new h e .1, left x next newer h e .1))
+pub both-left : {y z : Reply} (out new next newer : List ℕ) → (y .number ≡ 0 → ⊥) → y ≡ z
+    → (y ≡ z) × ((out ≡ unlessRefused z out new) × (next ≡ unlessRefused z next newer))
+both-left out new next newer h e = (e, (left out new h e .1, left next newer h e .1))
 
 -- the lent sheet of choices that are a panel's
 module _ {ls : List Lift} (f : Fit ls) (ws : List ℕ) (start : ℕ) (p : Picks) (d : Picked (panel ls ws start) p) where
@@ -54,9 +54,9 @@ left-next start (chosen cs n) ls next = refl
 left-next start (short r) ls next = refl
 
 -- where the words and the output suffice, and m lifts remain
-module _ (ls : List Lift) (ws : List ℕ) (start : ℕ) (out next : List ℕ) (n m : ℕ) (a : start ≤ length ws) (b : 2 * n ≤ length out) (e : m ≡ length (remaining ls)) where
+module _ (ls : List Lift) (ws : List ℕ) (start : ℕ) (out next : List ℕ) (n m : ℕ) (a : (start ≤ length ws) × (2 * n ≤ length out)) (e : m ≡ length (remaining ls)) where
   pub cramped : length next < 3 * m + n + 1 → ofRefusal (numbered 17 (3 * m + n + 1)) ≡ ofLent ls n ws start (length out) (length next)
-  cramped h = rw (← enough n ws start (length out) _ a b, ← e, lt-ltb (length next) (3 * m + n + 1) h)
+  cramped h = rw (← enough n (length ws) start (length out) (a .0) _ (a .1), ← e, lt-ltb (length next) (3 * m + n + 1) h)
 
   pub through-next : 3 * m + n + 1 ≤ length next → (p : Picks) → Picked (panel ls ws start) p → Fit ls → {y : Reply} {out′ next′ : List ℕ}
       → y ≡ toldBy p start → out′ ≡ writtenBy p out → next′ ≡ carriedBy p ls next
@@ -65,7 +65,7 @@ module _ (ls : List Lift) (ws : List ℕ) (start : ℕ) (out next : List ℕ) (n
       × (next′ ≡ unlessRefused (ofLent ls n ws start (length out) (length next)) next (carriedTo (panel ls ws start) ls next)))
   through-next h p d f g k q =
       let x = panel ls ws start in
-      rw (← enough n ws start (length out) _ a b, ← e, le-ltb (length next) (3 * m + n + 1) h)
+      rw (← enough n (length ws) start (length out) (a .0) _ (a .1), ← e, le-ltb (length next) (3 * m + n + 1) h)
       (g ∙ told-panel ls ws start p d, (k ∙ written-panel ls ws start p d f out ∙ left-panel start x out, q ∙ carried-panel f ws start p d next ∙ left-next start x ls next))
 
 -- ---- the whole sheet
@@ -75,7 +75,7 @@ module _ (sheet ws : List ℕ) (start : ℕ) (out next : List ℕ) where
       → (ofRefusal x ≡ reply sheet ws start (length out) (length next))
       × ((out ≡ output sheet ws start out (length next)) × (next ≡ nextOutput sheet ws start (length out) next))
   unfolding reply output nextOutput
-  at-sheet {x} e = rw (← e) (both-left x out _ next _ (decided sheet .above x (sym e)) refl)
+  at-sheet {x} e = rw (← e) (both-left out _ next _ (λ z. omega (arith, z, decided sheet .above x (sym e))) refl)
 
   pub at-fitting : {k m : ℕ} {y : Reply} {out′ next′ : List ℕ} → fits k m ≡ verdict sheet → y ≡ ofLent (lifts sheet) m ws start (length out) (length next)
       → out′ ≡ unlessRefused (ofLent (lifts sheet) m ws start (length out) (length next)) out (writtenOf (panel (lifts sheet) ws start) out)

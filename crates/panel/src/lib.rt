@@ -10,9 +10,9 @@ ghost use Rattle.sheet.specs.Sheet.{mostLifts, mostRounds, lifts as liftsOfShee
 ghost use Rattle.sheet.specs.Reading.{Legible};
 ghost use Rattle.sheet.specs.Tables.{fieldOf, startsOf, ByRound, first};
 ghost use Rattle.sheet.specs.Rounds.{those, inUse};
-ghost use Rattle.sheet.specs.Reply.{unlessRefused};
+ghost use Rattle.sheet.specs.Reply.{replied, unlessRefused};
 ghost use Rattle.sheet.specs.Law.{Fitting};
-ghost use Rattle.selection.specs.Choice.{panel as panelOf, ofLent, pair, writtenOf, reply, output};
+ghost use Rattle.selection.specs.Choice.{panel as panelOf, unlessLacking, ofLent, pair, writtenOf, reply, output};
 ghost use Rattle.selection.specs.Fair.{Fair};
 ghost use Rattle.carry.specs.Next.{remaining};
 ghost use Rattle.carry.specs.Reply.{ofLent as ofLentNext, reply as replyNext, output as outputNext, carriedTo, nextOutput};
@@ -538,6 +538,21 @@ fn finish(p: Picks, start: usize, out: &mut [u32]) -> Answer
     Answer::Chosen(p.count, p.next - start)
 }
 
+// Refused because of the start position or the output, or else no choice yet.
+fn lacking(rounds: usize, words: usize, start: usize, room: usize) -> Answer
+    requires { ⌜ rounds ≤ mostRounds ⌝ }
+    ensures { λ r. ⌜ told r ≡ unlessLacking rounds words start room (replied 0 0) ⌝ }
+{
+    if words < start {
+        return Answer::Start(start);
+    }
+    let need = 2 * rounds;
+    if room < need {
+        return Answer::Output(need);
+    }
+    Answer::Chosen(0, 0)
+}
+
 // The answer to a fitting sheet of so many lifts and new rounds.
 fn choose_fitting(
     sheet: &[u32],
@@ -552,12 +567,9 @@ fn choose_fitting(
     ensures { λ r. ⌜ told r ≡ ofLent (liftsOfSheet (now (sheet .entry))) rounds (now (words .entry)) start (length (now (out .entry))) ⌝ }
     ensures { λ _. ⌜ now (out .exit) ≡ unlessRefused (ofLent (liftsOfSheet (now (sheet .entry))) rounds (now (words .entry)) start (length (now (out .entry)))) (now (out .entry)) (writtenOf (panelOf (liftsOfSheet (now (sheet .entry))) (now (words .entry)) start) (now (out .entry))) ⌝ }
 {
-    if words.len() < start {
-        return Answer::Start(start);
-    }
-    let need = 2 * rounds;
-    if out.len() < need {
-        return Answer::Output(need);
+    let lack = lacking(rounds, words.len(), start, out.len());
+    if lack.number() != 0 {
+        return lack;
     }
     let picks = select_all(sheet, lifts, words, start);
     finish(picks, start, out)
@@ -610,13 +622,10 @@ fn choose_next_fitting(
     ensures { λ _. ⌜ now (out .exit) ≡ unlessRefused (ofLentNext (liftsOfSheet (now (sheet .entry))) (fitting .rounds) (now (words .entry)) start (length (now (out .entry))) (length (now (next .entry)))) (now (out .entry)) (writtenOf (panelOf (liftsOfSheet (now (sheet .entry))) (now (words .entry)) start) (now (out .entry))) ⌝ }
     ensures { λ _. ⌜ now (next .exit) ≡ unlessRefused (ofLentNext (liftsOfSheet (now (sheet .entry))) (fitting .rounds) (now (words .entry)) start (length (now (out .entry))) (length (now (next .entry)))) (now (next .entry)) (carriedTo (panelOf (liftsOfSheet (now (sheet .entry))) (now (words .entry)) start) (liftsOfSheet (now (sheet .entry))) (now (next .entry))) ⌝ }
 {
-    if words.len() < start {
-        return Answer::Start(start);
-    }
     let rounds = fitting.rounds;
-    let need = 2 * rounds;
-    if out.len() < need {
-        return Answer::Output(need);
+    let lack = lacking(rounds, words.len(), start, out.len());
+    if lack.number() != 0 {
+        return lack;
     }
     let lifts = carry::remaining(sheet, fitting.lifts);
     let space = 3 * lifts + rounds + 1;

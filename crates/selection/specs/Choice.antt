@@ -123,12 +123,12 @@ ofPanel start (short r) = ofRefusal (numbered 13 r)
 
 -- "11. Start position above the number of chance words. Place: the start."
 -- "12. Output shorter than the choices need. Place: the words needed."
-abbrev pub unlessLacking : ℕ → List ℕ → ℕ → ℕ → Reply → Reply
-unlessLacking rounds ws start room otherwise =
-    cond (ltb (length ws) start) (ofRefusal (numbered 11 start)) (cond (ltb room (2 * rounds)) (ofRefusal (numbered 12 (2 * rounds))) otherwise)
+abbrev pub unlessLacking : (rounds words start room : ℕ) → Reply → Reply
+unlessLacking rounds words start room otherwise =
+    cond (ltb words start) (ofRefusal (numbered 11 start)) (cond (ltb room (2 * rounds)) (ofRefusal (numbered 12 (2 * rounds))) otherwise)
 
 abbrev pub ofLent : List Lift → ℕ → List ℕ → ℕ → ℕ → Reply
-ofLent ls rounds ws start room = unlessLacking rounds ws start room (ofPanel start (panel ls ws start))
+ofLent ls rounds ws start room = unlessLacking rounds (length ws) start room (ofPanel start (panel ls ws start))
 
 -- the reply of a refused sheet, or what follows from the new rounds of a fitting one
 abbrev pub ofVerdict : Verdict → (ℕ → Reply) → Reply
