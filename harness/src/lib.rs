@@ -2,6 +2,7 @@
 
 pub mod archive;
 pub mod examples;
+pub mod lent;
 pub mod plain;
 pub mod reference;
 pub mod seeded;

@@ -1,9 +1,10 @@
 //! Compares the archive's choice for a whole sheet with the reference: the document's cases, its traps and seeded sheets. The archive's shares are exact.
 
+use harness::lent::{any_count, any_len, any_start, Marked, Script};
 use harness::reference::{choose_by, donors, new_rounds, new_sum, old_sum};
 use harness::reference::{read_sheet, write_sheet, Reply, Round, Sheet, SheetLift};
 use harness::seeded::Seeded;
-use harness::sheets::{add_round_words, add_sheet_words, any_lifts, damaged_sheet, fitting_lifts};
+use harness::sheets::{add_round_words, any_lifts, damaged_sheet, fitting_lifts};
 use harness::sheets::{filled_in, held, lift, numbered, Place, EXAMPLE, NONE};
 use harness::ways::{step, Drawn, Weights};
 use harness::{archive, reference};
@@ -24,37 +25,23 @@ type Chooser = fn(&[u32], &[u64], usize, &mut [u32]) -> Reply;
 /// What means "not counted" in a new place: all ones.
 const NOT_COUNTED: u32 = 2_097_151;
 
-/// How many words on either side of the output are not lent.
-const MARGIN: usize = 4;
-
-/// What the words on both sides of the output and in it hold before the call: each is different.
-fn marks(out_len: usize) -> Vec<u32> {
-    let marks = (0xA5A5_0000..).take(out_len + 2 * MARGIN);
-    marks.collect()
-}
-
-/// The reply, and the output with the words on both sides of it.
-fn run(choose: Chooser, lent: Lent) -> (Reply, Vec<u32>) {
-    let mut all = marks(lent.out_len);
-    let out = &mut all[MARGIN..MARGIN + lent.out_len];
-    let reply = choose(lent.sheet, lent.words, lent.start, out);
-    (reply, all)
+/// The reply, and the output between marks.
+fn run(choose: Chooser, lent: Lent) -> (Reply, Marked) {
+    let mut out = Marked::new(lent.out_len);
+    let reply = choose(lent.sheet, lent.words, lent.start, out.lent());
+    (reply, out)
 }
 
 /// A reply and an output on which archive and reference agree; nothing but the pairs is written.
 fn agreed_output(lent: Lent) -> (Reply, Vec<u32>) {
-    let (expected, expected_all) = run(reference::choose_panel, lent);
-    let (reply, all) = run(archive::choose_panel, lent);
+    let (expected, expected_out) = run(reference::choose_panel, lent);
+    let (reply, out) = run(archive::choose_panel, lent);
     assert_eq!(reply, expected, "{lent:08X?}");
-    assert_eq!(all, expected_all, "{lent:08X?}");
-    let written = match reply {
-        Reply::Chosen { choices, .. } => MARGIN..MARGIN + 2 * choices,
-        Reply::Refused { .. } => 0..0,
-    };
-    let mut kept = marks(lent.out_len);
-    kept[written.clone()].copy_from_slice(&all[written.clone()]);
-    assert_eq!(all, kept, "{lent:08X?}");
-    (reply, all[written].to_vec())
+    assert_eq!(out, expected_out, "{lent:08X?}");
+    match reply {
+        Reply::Chosen { choices, .. } => (reply, out.written(2 * choices)),
+        Reply::Refused { .. } => (reply, out.written(0)),
+    }
 }
 
 /// A reply on which archive and reference agree, their outputs too.
@@ -427,70 +414,40 @@ fn held_lift_of_a_split_round_is_in_one_part() {
     check("dropped", &sheet, &[3, 7, 8], &[(3, 1, 3), (4, 2, 2)]);
 }
 
-/// A sheet that fits, words that just suffice from the start on, and each word's new round.
-struct Script {
-    lifts: Vec<SheetLift>,
-    sheet: Vec<u32>,
-    rounds: usize,
-    words: Vec<u64>,
-    start: usize,
-    round_of_word: Vec<u32>,
+/// What is lent for a script's choice: words and output just suffice.
+fn lent_of(script: &Script) -> Lent<'_> {
+    Lent {
+        sheet: &script.sheet,
+        words: &script.words,
+        start: script.start,
+        out_len: 2 * script.rounds,
+    }
 }
 
-impl Script {
-    /// For these lifts.
-    fn new(seeded: &mut Seeded, lifts: Vec<SheetLift>) -> Script {
-        let sheet = write_sheet(&lifts);
-        let read = read_sheet(&sheet).expect("the sheet fits");
-        let mut words: Vec<u64> = (0..seeded.index(3)).map(|_| seeded.word()).collect();
-        let start = words.len();
-        let round_of_word = add_sheet_words(seeded, &read, &mut words);
-        Script {
-            lifts,
-            sheet,
-            rounds: read.new_rounds.len(),
-            words,
-            start,
-            round_of_word,
-        }
-    }
+/// Checks that the first so many words do not suffice, and gives the round that lacks one.
+fn check_short(script: &Script, count: usize) -> u32 {
+    let round = script.round_of_word[count];
+    let reply = agreed(Lent {
+        words: &script.words[..count],
+        ..lent_of(script)
+    });
+    assert_eq!(reply, refused(13, round as usize));
+    round
+}
 
-    /// What is lent for the choice: words and output just suffice.
-    fn lent(&self) -> Lent<'_> {
-        Lent {
-            sheet: &self.sheet,
-            words: &self.words,
-            start: self.start,
-            out_len: 2 * self.rounds,
-        }
-    }
-
-    /// Checks that the first so many words do not suffice, and gives the round that lacks one.
-    fn check_short(&self, count: usize) -> u32 {
-        let words = &self.words[..count];
-        let round = self.round_of_word[count];
-        let reply = agreed(Lent {
-            words,
-            ..self.lent()
-        });
-        assert_eq!(reply, refused(13, round as usize));
-        round
-    }
-
-    /// Checks that the words just suffice and that more words behind them change nothing.
-    fn check_whole(&self, seeded: &mut Seeded) {
-        let exact = agreed_output(self.lent());
-        let read = self.words.len() - self.start;
-        assert_eq!(exact.0, chosen(self.rounds, read));
-        let mut words = self.words.clone();
-        words.extend((0..1 + seeded.index(3)).map(|_| seeded.word()));
-        let more = Lent {
-            words: &words,
-            out_len: 2 * self.rounds + seeded.index(4),
-            ..self.lent()
-        };
-        assert_eq!(agreed_output(more), exact);
-    }
+/// Checks that the words just suffice and that more words behind them change nothing.
+fn check_whole(script: &Script, seeded: &mut Seeded) {
+    let exact = agreed_output(lent_of(script));
+    let read = script.words.len() - script.start;
+    assert_eq!(exact.0, chosen(script.rounds, read));
+    let mut words = script.words.clone();
+    words.extend((0..1 + seeded.index(3)).map(|_| seeded.word()));
+    let more = Lent {
+        words: &words,
+        out_len: 2 * script.rounds + seeded.index(4),
+        ..lent_of(script)
+    };
+    assert_eq!(agreed_output(more), exact);
 }
 
 #[test]
@@ -502,8 +459,8 @@ fn every_shorter_list_is_refused() {
         let lifts = fitting_lifts(&mut seeded, count, 6);
         let script = Script::new(&mut seeded, lifts);
         let counts = script.start..script.words.len();
-        short_rounds.extend(counts.map(|count| script.check_short(count)));
-        script.check_whole(&mut seeded);
+        short_rounds.extend(counts.map(|count| check_short(&script, count)));
+        check_whole(&script, &mut seeded);
     }
     assert!(short_rounds.into_iter().eq(1..=100));
 }
@@ -526,9 +483,9 @@ fn longest_sheet_is_refused_short_in_every_round() {
     let script = Script::new(&mut seeded, longest());
     assert_eq!((script.sheet.len(), script.rounds), (12_389, 100));
     let counts = script.start..script.words.len();
-    let short_rounds: BTreeSet<u32> = counts.map(|count| script.check_short(count)).collect();
+    let short_rounds: BTreeSet<u32> = counts.map(|count| check_short(&script, count)).collect();
     assert!(short_rounds.into_iter().eq(1..=100));
-    script.check_whole(&mut seeded);
+    check_whole(&script, &mut seeded);
 }
 
 #[test]
@@ -550,44 +507,12 @@ fn full_sheets_agree() {
         let count = 4_096 - seeded.index(20);
         let lifts = fitting_lifts(&mut seeded, count, 1_500);
         let script = Script::new(&mut seeded, lifts);
-        script.check_whole(&mut seeded);
+        check_whole(&script, &mut seeded);
         let counts = script.start..script.words.len();
         if !counts.is_empty() {
-            script.check_short(counts.start + seeded.index(counts.len()));
-            script.check_short(counts.end - 1);
+            check_short(&script, counts.start + seeded.index(counts.len()));
+            check_short(&script, counts.end - 1);
         }
-    }
-}
-
-/// How many words are lent: mostly all, else fewer.
-fn any_count(seeded: &mut Seeded, count: usize) -> usize {
-    match seeded.below(4) {
-        0 => seeded.index(count + 1),
-        1 => count - count.min(1),
-        _ => count,
-    }
-}
-
-/// A start: mostly as it was, else in the list, at its end, behind it or far beyond.
-fn any_start(seeded: &mut Seeded, start: usize, count: usize) -> usize {
-    match seeded.below(16) {
-        0 => seeded.index(count + 1),
-        1 => count,
-        2 => count + 1 + seeded.index(3),
-        3 => usize::MAX - seeded.index(2),
-        4 => (1 << (32 + seeded.index(32))) + seeded.index(count + 1),
-        _ => start,
-    }
-}
-
-/// An output's length: mostly as needed, else more, one less, none or any less.
-fn any_out_len(seeded: &mut Seeded, needed: usize) -> usize {
-    match seeded.below(16) {
-        0..4 => needed + 1 + seeded.index(9),
-        4 => needed - needed.min(1),
-        5 => 0,
-        6 => seeded.index(needed + 1),
-        _ => needed,
     }
 }
 
@@ -615,7 +540,7 @@ fn seeded_sheets_agree() {
             sheet: &damaged,
             words: &script.words[..count],
             start: any_start(&mut seeded, script.start, count),
-            out_len: any_out_len(&mut seeded, 2 * script.rounds),
+            out_len: any_len(&mut seeded, 2 * script.rounds),
         };
         counts[number_of(agreed(lent))] += 1;
     }
@@ -660,13 +585,13 @@ fn sheets_with_lifts_not_counted_agree() {
     let (mut outcomes, mut held) = ([0; 4], 0);
     for _ in 0..50_000 {
         let script = silent_script(&mut seeded);
-        let (_, pairs) = agreed_output(script.lent());
+        let (_, pairs) = agreed_output(lent_of(&script));
         for outcome in silent_outcomes(&script.lifts, &pairs) {
             outcomes[outcome] += 1;
         }
         let mut lifts = script.lifts.iter();
         held += usize::from(lifts.any(|lift| lift.held && is_silent(lift)));
-        script.check_whole(&mut seeded);
+        check_whole(&script, &mut seeded);
     }
     assert!(
         outcomes[1..].iter().all(|&pairs| pairs >= 2_000),
@@ -685,8 +610,8 @@ fn old_measures_in_place_of_counts_change_nothing() {
         let lent = Lent {
             words: &script.words[..count],
             start: any_start(&mut seeded, script.start, count),
-            out_len: any_out_len(&mut seeded, 2 * script.rounds),
-            ..script.lent()
+            out_len: any_len(&mut seeded, 2 * script.rounds),
+            ..lent_of(&script)
         };
         let sheet = &filled_in(&script.sheet);
         assert_ne!(*sheet, script.sheet);
