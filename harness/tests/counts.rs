@@ -2,7 +2,7 @@
 
 use harness::reference::{read_lifts, write_sheet, Intake, SheetLift};
 use harness::seeded::Seeded;
-use harness::sheets::{filled_in, fitting_lifts, held, lift, numbered, EXAMPLE, NONE};
+use harness::sheets::{filled_in, fitting_lifts, held, lift, longest, numbered, EXAMPLE, NONE};
 use harness::texts::{any_lent, any_text, names_of_sorts, text_of, Case, Lent};
 use harness::{archive, plain, reference};
 use std::collections::BTreeMap;
@@ -554,20 +554,9 @@ fn a_newcomer_not_counted_is_refused_before_the_lines() {
     }
 }
 
-/// The lifts of the longest sheet: 4,096 in 100 rounds of one donor each.
-fn longest() -> Vec<SheetLift> {
-    let place = |number: u32| (number % 100 + 1, 25_000);
-    let lifts = (0..4_096).map(|number| lift(place(number), place(number + 7)));
-    let mut lifts: Vec<SheetLift> = lifts.collect();
-    lifts[3_000..3_100]
-        .iter_mut()
-        .for_each(|lift| lift.held = true);
-    lifts
-}
-
 #[test]
 fn every_lift_of_the_longest_sheet_is_counted() {
-    let mut lifts = numbered(&longest(), 1);
+    let mut lifts = longest();
     let lent = write_sheet(&lifts);
     assert_eq!(lent.len(), 12_389);
     for lift in &mut lifts {

@@ -5,7 +5,7 @@ use harness::reference::{choose_by, donors, new_rounds, new_sum, old_sum};
 use harness::reference::{read_sheet, write_sheet, Reply, Round, Sheet, SheetLift};
 use harness::seeded::Seeded;
 use harness::sheets::{add_round_words, any_lifts, damaged_sheet, fitting_lifts};
-use harness::sheets::{filled_in, held, lift, numbered, Place, EXAMPLE, NONE};
+use harness::sheets::{filled_in, held, lift, longest, numbered, Place, EXAMPLE, NONE};
 use harness::ways::{step, Drawn, Weights};
 use harness::{archive, reference};
 use std::collections::BTreeSet;
@@ -465,22 +465,13 @@ fn every_shorter_list_is_refused() {
     assert!(short_rounds.into_iter().eq(1..=100));
 }
 
-/// The lifts of the longest sheet: 4,096 in 100 rounds of one donor each, whose held lifts shrink.
-fn longest() -> Vec<SheetLift> {
-    let round = |number: u32| number % 100 + 1;
-    let mut lifts: Vec<SheetLift> = (0..4_096)
-        .map(|number| lift((round(number), 25_000), (round(number + 7), 25_000)))
-        .collect();
-    for lift in &mut lifts[3_000..3_100] {
-        (lift.held, lift.new_measure) = (true, 1);
-    }
-    numbered(&lifts, 1)
-}
-
 #[test]
 fn longest_sheet_is_refused_short_in_every_round() {
     let mut seeded = Seeded::new(14);
-    let script = Script::new(&mut seeded, longest());
+    let mut lifts = longest();
+    let held = lifts.iter_mut().filter(|lift| lift.held);
+    held.for_each(|lift| lift.new_measure = 1);
+    let script = Script::new(&mut seeded, lifts);
     assert_eq!((script.sheet.len(), script.rounds), (12_389, 100));
     let counts = script.start..script.words.len();
     let short_rounds: BTreeSet<u32> = counts.map(|count| check_short(&script, count)).collect();

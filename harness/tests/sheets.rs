@@ -4,7 +4,8 @@ use harness::archive;
 use harness::reference::{check, read_sheet, write_sheet, SheetLift, Verdict};
 use harness::seeded::Seeded;
 use harness::sheets::{damaged_sheet, fitting_lifts, LIFT_DAMAGES, WORD_DAMAGES};
-use harness::sheets::{held, lift, names_of_sheet_sorts, numbered, Checked, EXAMPLE, NONE};
+use harness::sheets::{held, lift, longest, numbered, EXAMPLE, NONE};
+use harness::sheets::{names_of_sheet_sorts, Checked};
 use std::collections::BTreeMap;
 
 /// The largest sum and measure.
@@ -64,18 +65,6 @@ fn length_decides_first() {
     assert_eq!(agreed(&[0; 12_389]), refused(2, 0));
     assert_eq!(agreed(&[0; 12_390]), refused(1, 12_390));
     assert_eq!(agreed(&vec![0xF000_0000; 1 << 20]), refused(1, 1 << 20));
-}
-
-/// The lifts of the longest sheet: 4,096 in 100 rounds of one donor each.
-fn longest() -> Vec<SheetLift> {
-    let place = |number: u32| (number % 100 + 1, 25_000);
-    let mut lifts: Vec<SheetLift> = (0..4_096)
-        .map(|number| lift(place(number), place(number + 7)))
-        .collect();
-    lifts[3_000..3_100]
-        .iter_mut()
-        .for_each(|lift| lift.held = true);
-    lifts
 }
 
 #[test]

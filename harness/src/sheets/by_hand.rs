@@ -50,3 +50,14 @@ pub fn numbered(lifts: &[SheetLift], first: u32) -> Vec<SheetLift> {
         .map(|(&lift, number)| SheetLift { number, ..lift })
         .collect()
 }
+
+/// The lifts of the longest sheet, numbered from 1 up: 4,096 in 100 rounds of one donor each.
+pub fn longest() -> Vec<SheetLift> {
+    let place = |number: u32| (number % 100 + 1, 25_000);
+    let lifts = (0..4_096).map(|number| lift(place(number), place(number + 7)));
+    let mut lifts: Vec<SheetLift> = lifts.collect();
+    for lift in &mut lifts[3_000..3_100] {
+        lift.held = true;
+    }
+    numbered(&lifts, 1)
+}

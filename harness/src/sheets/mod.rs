@@ -6,7 +6,7 @@ mod lifelike;
 mod sorts;
 mod words;
 
-pub use by_hand::{held, lift, numbered, Place, EXAMPLE, NONE};
+pub use by_hand::{held, lift, longest, numbered, Place, EXAMPLE, NONE};
 pub use damage::{damaged_sheet, LIFT_DAMAGES, WORD_DAMAGES};
 pub use lifelike::{lifelike_lifts, Town};
 pub use sorts::{names_of_sheet_sorts, Checked};
