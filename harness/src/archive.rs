@@ -52,6 +52,20 @@ extern "C" {
         third: *mut usize,
     ) -> u32;
 
+    fn jengpilo_panel_choose_next(
+        sheet: *const u32,
+        sheet_len: usize,
+        words: *const u64,
+        words_len: usize,
+        start: usize,
+        out: *mut u32,
+        out_len: usize,
+        next: *mut u32,
+        next_len: usize,
+        second: *mut usize,
+        third: *mut usize,
+    ) -> u32;
+
     fn jengpilo_counts_take(
         sheet: *mut u32,
         sheet_len: usize,
@@ -64,6 +78,9 @@ extern "C" {
 
 /// What the places for an answer hold before the call.
 const UNWRITTEN: (u64, usize) = (0x5EED_0BAD_CAFE_F00D, 0x0DD_BA11);
+
+/// What the second and third number of a reply are before the call.
+const UNTOLD: (usize, usize) = (usize::MAX - 7, usize::MAX - 7);
 
 /// One draw below `bound`, reading from position `at`: the value and the next position.
 pub fn draw_below(words: &[u64], at: usize, bound: u64) -> Option<(u64, usize)> {
@@ -155,8 +172,7 @@ pub fn check_sheet(sheet: &[u32]) -> Verdict {
 
 /// Chooses for all new rounds with words read from `start` on, and writes a pair for each.
 pub fn choose_panel(sheet: &[u32], words: &[u64], start: usize, out: &mut [u32]) -> Reply {
-    let unwritten = usize::MAX - 7;
-    let (mut second, mut third) = (unwritten, unwritten);
+    let (mut second, mut third) = UNTOLD;
     // SAFETY: all slices and both numbers live through the call, and each length is its slice's.
     let number = unsafe {
         jengpilo_panel_choose(
@@ -171,6 +187,39 @@ pub fn choose_panel(sheet: &[u32], words: &[u64], start: usize, out: &mut [u32])
             &mut third,
         )
     };
+    reply_of(number, second, third)
+}
+
+/// Chooses for all new rounds with words read from `start` on; writes a pair for each to `out` and next quarter's sheet to `next`.
+pub fn choose_next(
+    sheet: &[u32],
+    words: &[u64],
+    start: usize,
+    out: &mut [u32],
+    next: &mut [u32],
+) -> Reply {
+    let (mut second, mut third) = UNTOLD;
+    // SAFETY: all slices and both numbers live through the call, and each length is its slice's.
+    let number = unsafe {
+        jengpilo_panel_choose_next(
+            sheet.as_ptr(),
+            sheet.len(),
+            words.as_ptr(),
+            words.len(),
+            start,
+            out.as_mut_ptr(),
+            out.len(),
+            next.as_mut_ptr(),
+            next.len(),
+            &mut second,
+            &mut third,
+        )
+    };
+    reply_of(number, second, third)
+}
+
+/// The reply of a call that chooses: its number, and what it told.
+fn reply_of(number: u32, second: usize, third: usize) -> Reply {
     if number == 0 {
         let (choices, words) = (second, third);
         return Reply::Chosen { choices, words };
@@ -182,8 +231,7 @@ pub fn choose_panel(sheet: &[u32], words: &[u64], start: usize, out: &mut [u32])
 
 /// Takes each line's count as its lift's new measure.
 pub fn take_counts(sheet: &mut [u32], text: &[u8]) -> Intake {
-    let unwritten = usize::MAX - 7;
-    let (mut second, mut third) = (unwritten, unwritten);
+    let (mut second, mut third) = UNTOLD;
     // SAFETY: sheet, text and both numbers live through the call, and each length is its slice's.
     let number = unsafe {
         jengpilo_counts_take(

@@ -1,4 +1,4 @@
-//! Compares the archive's choice for a whole sheet with the reference: the document's cases, its traps and seeded sheets. The archive's shares are exact.
+//! Compares the archive's choice for a whole sheet, by both calls that make it, with the reference: the document's cases, its traps and seeded sheets. The archive's shares are exact.
 
 use harness::lent::{any_count, any_len, any_start, Marked, Script};
 use harness::reference::{choose_by, donors, new_rounds, new_sum, old_sum};
@@ -25,6 +25,11 @@ type Chooser = fn(&[u32], &[u64], usize, &mut [u32]) -> Reply;
 /// What means "not counted" in a new place: all ones.
 const NOT_COUNTED: u32 = 2_097_151;
 
+/// The archive's choices: by the call for choices alone, and by the one that writes next quarter's sheet, with room for it.
+const PROVED: [Chooser; 2] = [archive::choose_panel, |sheet, words, start, out| {
+    archive::choose_next(sheet, words, start, out, &mut [0; 12_389])
+}];
+
 /// The reply, and the output between marks.
 fn run(choose: Chooser, lent: Lent) -> (Reply, Marked) {
     let mut out = Marked::new(lent.out_len);
@@ -34,10 +39,11 @@ fn run(choose: Chooser, lent: Lent) -> (Reply, Marked) {
 
 /// A reply and an output on which archive and reference agree; nothing but the pairs is written.
 fn agreed_output(lent: Lent) -> (Reply, Vec<u32>) {
-    let (expected, expected_out) = run(reference::choose_panel, lent);
-    let (reply, out) = run(archive::choose_panel, lent);
-    assert_eq!(reply, expected, "{lent:08X?}");
-    assert_eq!(out, expected_out, "{lent:08X?}");
+    let expected = run(reference::choose_panel, lent);
+    for choose in PROVED {
+        assert_eq!(run(choose, lent), expected, "{lent:08X?}");
+    }
+    let (reply, out) = expected;
     match reply {
         Reply::Chosen { choices, .. } => (reply, out.written(2 * choices)),
         Reply::Refused { .. } => (reply, out.written(0)),
@@ -689,11 +695,15 @@ fn add_given(round: &Round, draws: &mut Vec<Drawn>, words: &mut Vec<u64>) {
     chosen.expect("every draw is answered");
 }
 
-/// The archive's lift for the new round at this place, from words that just suffice.
+/// The archive's lift for the new round at this place by both calls, from words that just suffice.
 fn lift_chosen(sheet: &[u32], words: &[u64], rounds: usize, place: usize) -> u32 {
-    let mut out = vec![0; 2 * rounds];
-    let reply = archive::choose_panel(sheet, words, 0, &mut out);
-    assert_eq!(reply, chosen(rounds, words.len()));
+    let [out, out_beside_next] = PROVED.map(|choose| {
+        let mut out = vec![0; 2 * rounds];
+        let reply = choose(sheet, words, 0, &mut out);
+        assert_eq!(reply, chosen(rounds, words.len()));
+        out
+    });
+    assert_eq!(out, out_beside_next);
     out[2 * place + 1] - (6 << 28)
 }
 

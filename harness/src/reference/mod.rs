@@ -2,12 +2,14 @@
 
 mod counts;
 mod draw;
+mod next;
 mod panel;
 mod round;
 mod sheet;
 
 pub use counts::{take_counts, Intake};
 pub use draw::draw;
+pub use next::choose_next;
 pub use panel::{choose_panel, new_rounds, report, NewRound, Reply};
 pub use round::{choose, choose_by, Choice, Lift, Outcome, Round};
 pub use sheet::{check, read_lifts, read_sheet, write_sheet, Sheet, SheetLift, Verdict};

@@ -3,7 +3,7 @@
 use super::sheet::{payload_of, place_of, place_word, word, Refusal};
 use super::MOST_ROUNDS;
 use super::{choose, donors, old_sum, read_sheet, Choice, Lift, Round, Sheet, SheetLift};
-use std::collections::BTreeMap;
+use std::collections::{BTreeMap, BTreeSet};
 
 /// The most random words the program reads.
 const MOST_WORDS: usize = 4_096;
@@ -31,40 +31,80 @@ pub struct NewRound {
 /// Chooses for all new rounds with words read from `start` on, and writes a pair for each.
 pub fn choose_panel(sheet: &[u32], words: &[u64], start: usize, out: &mut [u32]) -> Reply {
     match choose_pairs(sheet, words, start, out.len()) {
-        Ok((pairs, words)) => {
-            let written = pairs.as_flattened();
-            out[..written.len()].copy_from_slice(written);
-            let choices = pairs.len();
-            Reply::Chosen { choices, words }
-        }
+        Ok(pairs) => pairs.write(out),
         Err((number, place)) => Reply::Refused { number, place },
     }
 }
 
-/// The output's pairs and how many words were read; refusals 1 to 13, and 16.
+/// The pairs of a sheet's new rounds; refusals 1 to 13, and 16.
 fn choose_pairs(
     sheet: &[u32],
     words: &[u64],
     start: usize,
-    lent: usize,
-) -> Result<(Vec<[u32; 2]>, usize), Refusal> {
+    out_len: usize,
+) -> Result<Pairs, Refusal> {
     let rounds = new_rounds(&read_sheet(sheet)?);
+    check_lent(&rounds, words, start, out_len)?;
+    Pairs::choose(&rounds, words, start)
+}
+
+/// Checks that the start is in the words or at their end and that the output has room for the pairs; refusals 11 and 12.
+pub(super) fn check_lent(
+    rounds: &[NewRound],
+    words: &[u64],
+    start: usize,
+    out_len: usize,
+) -> Result<(), Refusal> {
     let needed = 2 * rounds.len();
     if start > words.len() {
         return Err((11, start));
     }
-    if lent < needed {
+    if out_len < needed {
         return Err((12, needed));
     }
-    let mut next = start;
-    let mut pairs = Vec::new();
-    for round in &rounds {
-        let choice = choose(&round.round, words, next);
-        let choice = choice.ok_or((13, round.number as usize))?;
-        next = choice.next;
-        pairs.push(round.pair(choice));
+    Ok(())
+}
+
+/// The output's pairs, and how many words were read for them.
+pub(super) struct Pairs {
+    pairs: Vec<[u32; 2]>,
+    words: usize,
+}
+
+impl Pairs {
+    /// Chooses for these rounds; refusal 13.
+    pub(super) fn choose(
+        rounds: &[NewRound],
+        words: &[u64],
+        start: usize,
+    ) -> Result<Pairs, Refusal> {
+        let mut next = start;
+        let mut pairs = Vec::new();
+        for round in rounds {
+            let choice = choose(&round.round, words, next);
+            let choice = choice.ok_or((13, round.number as usize))?;
+            next = choice.next;
+            pairs.push(round.pair(choice));
+        }
+        let words = next - start;
+        Ok(Pairs { pairs, words })
     }
-    Ok((pairs, next - start))
+
+    /// The numbers of the lifts chosen.
+    pub(super) fn lift_numbers(&self) -> BTreeSet<u32> {
+        let pairs = self.pairs.iter();
+        pairs.map(|&[_, lift]| payload_of(lift)).collect()
+    }
+
+    /// Writes the pairs to an output that has room for them, and gives the reply.
+    pub(super) fn write(&self, out: &mut [u32]) -> Reply {
+        let written = self.pairs.as_flattened();
+        out[..written.len()].copy_from_slice(written);
+        Reply::Chosen {
+            choices: self.pairs.len(),
+            words: self.words,
+        }
+    }
 }
 
 /// The new rounds of a sheet that fits, rising.
