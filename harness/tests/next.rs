@@ -1,11 +1,11 @@
 //! Compares the archive's choice that writes next quarter's sheet with the reference: cases by hand, seeded sheets, and twelve quarters in a row.
 
-use harness::lent::{Marked, Script};
+use harness::lent::{any_count, any_len, any_start, Marked, Script};
 use harness::reference::{read_lifts, Reply, SheetLift};
 use harness::seeded::Seeded;
-use harness::sheets::{longest, EXAMPLE};
+use harness::sheets::{any_lifts, damaged_sheet, lifelike_lifts, longest, Town, EXAMPLE};
 use harness::{archive, reference};
-use std::collections::BTreeSet;
+use std::collections::{BTreeMap, BTreeSet};
 
 /// What is lent for a choice: lengths stand for the output and for the sheet to be written.
 #[derive(Clone, Copy, Debug)]
@@ -380,4 +380,241 @@ fn longest_sheet_is_written() {
         };
         assert_eq!(agreed(short).reply, refused(17, 12_389));
     }
+}
+
+/// A town of few lifts.
+const SMALL_TOWN: Town = Town {
+    lifts: 60,
+    rounds: 10,
+    redrawn: 4,
+};
+
+/// Lifts of a sheet that fits: lifelike, by hand, all withdrawn, or mostly any.
+fn any_sort(seeded: &mut Seeded) -> Vec<SheetLift> {
+    match seeded.below(64) {
+        0 => lifelike_lifts(seeded, SMALL_TOWN),
+        1 => by_hand(seeded),
+        2..5 => all_withdrawn(seeded),
+        _ => any_lifts(seeded),
+    }
+}
+
+/// The lifts of a case by hand.
+fn by_hand(seeded: &mut Seeded) -> Vec<SheetLift> {
+    let case = &CASES[seeded.index(CASES.len())];
+    read_lifts(&case.sheet.concat()).expect("the sheet fits")
+}
+
+/// Any lifts, all of them withdrawn.
+fn all_withdrawn(seeded: &mut Seeded) -> Vec<SheetLift> {
+    let mut lifts = any_lifts(seeded);
+    for lift in &mut lifts {
+        (lift.new_round, lift.new_measure) = (0, 0);
+    }
+    lifts
+}
+
+/// How a length lies to what is needed.
+#[derive(Clone, Copy, Debug, PartialEq, Eq, PartialOrd, Ord)]
+enum Side {
+    Empty,
+    OneShort,
+    Shorter,
+    Just,
+    More,
+}
+
+/// The side of a length.
+fn side_of(len: usize, needed: usize) -> Side {
+    match len {
+        _ if len > needed => Side::More,
+        _ if len == needed => Side::Just,
+        0 => Side::Empty,
+        _ if len + 1 == needed => Side::OneShort,
+        _ => Side::Shorter,
+    }
+}
+
+/// A sort's name, and whether lifts are of it.
+type Sort = (&'static str, fn(&[SheetLift]) -> bool);
+
+/// The sorts of sheets that are to be chosen from.
+const SORTS: [Sort; 9] = [
+    ("no lift", |lifts| lifts.is_empty()),
+    ("lifts, all withdrawn", |lifts| {
+        !lifts.is_empty() && lifts.iter().all(is_withdrawn)
+    }),
+    ("lifts, some withdrawn", |lifts| {
+        lifts.iter().any(is_withdrawn) && !lifts.iter().all(is_withdrawn)
+    }),
+    ("held lift withdrawn", |lifts| {
+        lifts.iter().any(|lift| lift.held && is_withdrawn(lift))
+    }),
+    ("lift not counted", |lifts| {
+        lifts.iter().any(SheetLift::is_silent)
+    }),
+    ("held lift not counted", |lifts| {
+        lifts.iter().any(|lift| lift.held && lift.is_silent())
+    }),
+    ("lift of old measure 0 not counted", |lifts| {
+        let mut silent = lifts.iter().filter(|lift| lift.is_silent());
+        silent.any(|lift| lift.old_measure == 0)
+    }),
+    ("newcomer", |lifts| {
+        let mut newcomers = lifts.iter().filter(|lift| lift.old_round == 0);
+        newcomers.any(|lift| !is_withdrawn(lift))
+    }),
+    ("100 lifts or more", |lifts| lifts.len() >= 100),
+];
+
+/// Whether a lift is withdrawn.
+fn is_withdrawn(lift: &SheetLift) -> bool {
+    lift.new_round == 0
+}
+
+/// The document's number, 0 for choices.
+fn number_of(reply: Reply) -> usize {
+    match reply {
+        Reply::Refused { number, .. } => number as usize,
+        Reply::Chosen { .. } => 0,
+    }
+}
+
+/// How often a number was given with a list's length on a side.
+type Sides = BTreeMap<(usize, Side), usize>;
+
+/// How often each number was given, on which sides of what output and next sheet need, and how many sheets of each sort were chosen from.
+#[derive(Default, Debug)]
+struct Seen {
+    numbers: [usize; 18],
+    outs: Sides,
+    nexts: Sides,
+    sorts: [usize; SORTS.len()],
+}
+
+impl Seen {
+    /// Adds a case: what was lent for these lifts, and the number given.
+    fn add(&mut self, lent: Lent, lifts: &[SheetLift], number: usize) {
+        let (out_needed, next_needed) = needs(lifts);
+        let out_side = side_of(lent.out_len, out_needed);
+        let next_side = side_of(lent.next_len, next_needed);
+        self.numbers[number] += 1;
+        *self.outs.entry((number, out_side)).or_default() += 1;
+        *self.nexts.entry((number, next_side)).or_default() += 1;
+        for ((_, has), sheets) in SORTS.iter().zip(&mut self.sorts) {
+            *sheets += usize::from(number == 0 && has(lifts));
+        }
+    }
+}
+
+/// Checks that each number was given 500 times or more on each of these sides.
+fn check_sides(sides: &Sides, expected: &[(usize, &[Side])]) {
+    for &(number, expected) in expected {
+        for &side in expected {
+            let cases = sides.get(&(number, side));
+            let often = cases.is_some_and(|&cases| cases >= 500);
+            assert!(often, "{number} {side:?}: {cases:?}");
+        }
+    }
+}
+
+#[test]
+fn seeded_sheets_agree() {
+    let mut seeded = Seeded::new(31);
+    let mut seen = Seen::default();
+    for _ in 0..150_000 {
+        let lifts = any_sort(&mut seeded);
+        let script = Script::new(&mut seeded, lifts);
+        let sheet = match seeded.below(2) {
+            0 => damaged_sheet(&mut seeded, script.lifts.clone(), 3),
+            _ => script.sheet,
+        };
+        let lifts = read_lifts(&sheet).unwrap_or(script.lifts);
+        let (out_needed, next_needed) = needs(&lifts);
+        let count = any_count(&mut seeded, script.words.len());
+        let lent = Lent {
+            sheet: &sheet,
+            words: &script.words[..count],
+            start: any_start(&mut seeded, script.start, count),
+            out_len: any_len(&mut seeded, out_needed),
+            next_len: any_len(&mut seeded, next_needed),
+        };
+        seen.add(lent, &lifts, number_of(agreed(lent).reply));
+    }
+    // There is no text, so 14 and 15 are never given.
+    let [given @ .., 0, 0, newcomers, short_sheets] = seen.numbers else {
+        panic!("{seen:?}");
+    };
+    assert!(given.iter().all(|&sheets| sheets >= 500), "{seen:?}");
+    assert!(newcomers >= 500 && short_sheets >= 500, "{seen:?}");
+    assert!(seen.sorts.iter().all(|&sheets| sheets >= 500), "{seen:?}");
+    use Side::{Empty, Just, More, OneShort, Shorter};
+    let (short, enough) = ([Empty, OneShort, Shorter], [Just, More]);
+    let all = [&short[..], &enough].concat();
+    let of_out: [(_, &[Side]); 4] = [(0, &enough), (12, &short), (13, &enough), (17, &enough)];
+    check_sides(&seen.outs, &of_out);
+    let of_next: [(_, &[Side]); 4] = [(0, &enough), (12, &all), (13, &enough), (17, &short)];
+    check_sides(&seen.nexts, &of_next);
+}
+
+/// A length that is too short where it is to be so and can be: one less, none or any less; else just enough or more.
+fn len_for(seeded: &mut Seeded, short: bool, needed: usize) -> usize {
+    match seeded.below(3) {
+        _ if needed == 0 || !short => needed + seeded.index(2),
+        0 => 0,
+        1 => seeded.index(needed),
+        _ => needed - 1,
+    }
+}
+
+/// What is lent for a script and whichever refusals are to meet, and these refusals in order.
+fn meeting<'a>(seeded: &mut Seeded, script: &'a Script) -> (Lent<'a>, Vec<(u32, usize)>) {
+    let [late, short_out, short_next, few] = [(); 4].map(|()| seeded.below(2) == 0);
+    let (out_needed, next_needed) = needs(&script.lifts);
+    let read = script.words.len() - script.start;
+    let missing = match few && read > 0 {
+        true => 1 + seeded.index(read),
+        false => 0,
+    };
+    let count = script.words.len() - missing;
+    let lent = Lent {
+        sheet: &script.sheet,
+        words: &script.words[..count],
+        start: match late {
+            true => count + 1 + seeded.index(2),
+            false => script.start,
+        },
+        out_len: len_for(seeded, short_out, out_needed),
+        next_len: len_for(seeded, short_next, next_needed),
+    };
+    let round = script.round_of_word.get(count);
+    let refusals = [
+        late.then_some((11, lent.start)),
+        (lent.out_len < out_needed).then_some((12, out_needed)),
+        (lent.next_len < next_needed).then_some((17, next_needed)),
+        round.filter(|_| !late).map(|&round| (13, round as usize)),
+    ];
+    (lent, refusals.into_iter().flatten().collect())
+}
+
+#[test]
+fn refusals_meet_in_order() {
+    let mut seeded = Seeded::new(32);
+    let mut met: BTreeMap<Vec<u32>, usize> = BTreeMap::new();
+    for _ in 0..60_000 {
+        let lifts = any_sort(&mut seeded);
+        let script = Script::new(&mut seeded, lifts);
+        let (lent, refusals) = meeting(&mut seeded, &script);
+        let read = script.words.len() - script.start;
+        let expected = match refusals.first() {
+            Some(&(number, place)) => refused(number, place),
+            None => chosen(script.rounds, read),
+        };
+        assert_eq!(agreed(lent).reply, expected, "{lent:08X?}");
+        let numbers = refusals.iter().map(|(number, _)| *number);
+        *met.entry(numbers.collect()).or_default() += 1;
+    }
+    // Each of 12, 17 and 13 with or without the others; behind 11, which leaves no draw to fall short, 12 and 17 alone.
+    assert_eq!(met.len(), 8 + 4, "{met:?}");
+    assert!(met.values().all(|&cases| cases >= 500), "{met:?}");
 }
