@@ -1,9 +1,10 @@
 //! Compares the archive's choice that writes next quarter's sheet with the reference: cases by hand, seeded sheets, and twelve quarters in a row.
 
 use harness::lent::{any_count, any_len, any_start, Marked, Script};
-use harness::reference::{read_lifts, Reply, SheetLift};
+use harness::reference::{read_lifts, read_sheet, Reply, SheetLift, Verdict};
 use harness::seeded::Seeded;
-use harness::sheets::{any_lifts, damaged_sheet, lifelike_lifts, longest, Town, EXAMPLE};
+use harness::sheets::{any_lifts, damaged_sheet, filled_in, fitting_lifts, lifelike_lifts};
+use harness::sheets::{longest, Town, EXAMPLE};
 use harness::{archive, reference};
 use std::collections::{BTreeMap, BTreeSet};
 
@@ -19,6 +20,9 @@ struct Lent<'a> {
 
 /// A choice that writes next quarter's sheet.
 type Chooser = fn(&[u32], &[u64], usize, &mut [u32], &mut [u32]) -> Reply;
+
+/// What means "not counted" in a new place: all ones.
+const NOT_COUNTED: u32 = 2_097_151;
 
 /// The reply, and the words written to the output and to the next sheet.
 #[derive(Debug, PartialEq, Eq)]
@@ -389,6 +393,13 @@ const SMALL_TOWN: Town = Town {
     redrawn: 4,
 };
 
+/// A town of the most lifts and rounds.
+const LARGE_TOWN: Town = Town {
+    lifts: 4_096,
+    rounds: 100,
+    redrawn: 20,
+};
+
 /// Lifts of a sheet that fits: lifelike, by hand, all withdrawn, or mostly any.
 fn any_sort(seeded: &mut Seeded) -> Vec<SheetLift> {
     match seeded.below(64) {
@@ -617,4 +628,117 @@ fn refusals_meet_in_order() {
     // Each of 12, 17 and 13 with or without the others; behind 11, which leaves no draw to fall short, 12 and 17 alone.
     assert_eq!(met.len(), 8 + 4, "{met:?}");
     assert!(met.values().all(|&cases| cases >= 500), "{met:?}");
+}
+
+/// What is lent for a script's choice: all of it just suffices.
+fn lent_of(script: &Script) -> Lent<'_> {
+    let (out_len, next_len) = needs(&script.lifts);
+    Lent {
+        sheet: &script.sheet,
+        words: &script.words,
+        start: script.start,
+        out_len,
+        next_len,
+    }
+}
+
+/// A round, its chosen lift and the outcome.
+type Choice = (u32, u32, u32);
+
+/// The choices that an output's pairs tell.
+fn choices_of(pairs: &[u32]) -> Vec<Choice> {
+    let pairs = pairs.as_chunks().0.iter();
+    let choices =
+        pairs.map(|[place, lift]| (place << 4 >> 25, lift - (6 << 28), place << 11 >> 11));
+    choices.collect()
+}
+
+/// Checks that the sheet written for a sheet that fits does so too, and is read as its lifts but for withdrawn ones: each in its new round with the measure that counted, not counted, and held if it was chosen.
+fn check_read_back(sheet: &[u32], answer: &Answer) {
+    let choices = choices_of(&answer.pairs).into_iter();
+    let chosen: BTreeSet<_> = choices.map(|(round, lift, _)| (round, lift)).collect();
+    let mut expected = read_lifts(&filled_in(sheet)).expect("the sheet fits");
+    expected.retain(|lift| !is_withdrawn(lift));
+    for lift in &mut expected {
+        (lift.old_round, lift.old_measure) = (lift.new_round, lift.new_measure);
+        lift.new_measure = NOT_COUNTED;
+        lift.held = chosen.contains(&(lift.new_round, lift.number));
+    }
+    let fits = Verdict::Fits {
+        lifts: expected.len(),
+        rounds: chosen.len(),
+    };
+    assert_eq!(archive::check_sheet(&answer.next), fits);
+    let next = read_sheet(&answer.next).expect("the sheet written fits");
+    assert_eq!(next.lifts, expected);
+}
+
+/// Checks that a sheet written, run at once on any words, keeps every recorder, reads no word and is written again as it is.
+fn check_at_once(answer: &Answer, words: &[u64], start: usize) {
+    let lent = Lent {
+        sheet: &answer.next,
+        words,
+        start,
+        out_len: answer.pairs.len(),
+        next_len: answer.next.len(),
+    };
+    let kept = |(round, lift, _): Choice| [5 << 28 | round << 21 | 1, 6 << 28 | lift];
+    let expected = Answer {
+        reply: chosen(answer.pairs.len() / 2, 0),
+        pairs: choices_of(&answer.pairs)
+            .into_iter()
+            .flat_map(kept)
+            .collect(),
+        next: answer.next.clone(),
+    };
+    assert_eq!(agreed(lent), expected);
+    for choose in [archive::choose_panel, reference::choose_panel] {
+        let mut out = vec![0; lent.out_len];
+        assert_eq!(choose(lent.sheet, words, start, &mut out), expected.reply);
+        assert_eq!(out, expected.pairs);
+    }
+}
+
+/// Checks a script's answer, and what the sheet written is read as and yields at once, and counts the outcomes.
+fn check_written(seeded: &mut Seeded, script: &Script, outcomes: &mut [usize; 4]) {
+    let answer = agreed(lent_of(script));
+    let read = script.words.len() - script.start;
+    assert_eq!(answer.reply, chosen(script.rounds, read));
+    for (_, _, outcome) in choices_of(&answer.pairs) {
+        outcomes[outcome as usize] += 1;
+    }
+    check_read_back(&script.sheet, &answer);
+    check_at_once(&answer, &[], 0);
+    let words: Vec<u64> = (0..seeded.index(5)).map(|_| seeded.word()).collect();
+    check_at_once(&answer, &words, seeded.index(words.len() + 1));
+}
+
+#[test]
+fn sheets_written_keep_every_recorder() {
+    let mut seeded = Seeded::new(33);
+    let mut outcomes = [0; 4];
+    for _ in 0..50_000 {
+        let lifts = any_sort(&mut seeded);
+        let script = Script::new(&mut seeded, lifts);
+        check_written(&mut seeded, &script, &mut outcomes);
+    }
+    let often = outcomes[1..].iter().all(|&pairs| pairs >= 2_000);
+    assert!(often, "{outcomes:?}");
+}
+
+#[test]
+fn full_sheets_written_keep_every_recorder() {
+    let mut seeded = Seeded::new(34);
+    let mut outcomes = [0; 4];
+    for _ in 0..60 {
+        let count = 4_096 - seeded.index(20);
+        let lifts = fitting_lifts(&mut seeded, count, 1_500);
+        let script = Script::new(&mut seeded, lifts);
+        check_written(&mut seeded, &script, &mut outcomes);
+        let lifts = lifelike_lifts(&mut seeded, LARGE_TOWN);
+        let script = Script::new(&mut seeded, lifts);
+        check_written(&mut seeded, &script, &mut outcomes);
+    }
+    let often = outcomes[1..].iter().all(|&pairs| pairs >= 2_000);
+    assert!(often, "{outcomes:?}");
 }
