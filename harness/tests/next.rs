@@ -1,10 +1,12 @@
 //! Compares the archive's choice that writes next quarter's sheet with the reference: cases by hand, seeded sheets, and twelve quarters in a row.
 
 use harness::lent::{any_count, any_len, any_start, Marked, Script};
-use harness::reference::{read_lifts, read_sheet, Reply, SheetLift, Verdict};
+use harness::reference::{new_sum, old_sum, read_lifts, read_sheet, write_sheet};
+use harness::reference::{Intake, Reply, SheetLift, Verdict};
 use harness::seeded::Seeded;
-use harness::sheets::{any_lifts, damaged_sheet, filled_in, fitting_lifts, lifelike_lifts};
-use harness::sheets::{longest, Town, EXAMPLE};
+use harness::sheets::{add_sheet_words, damaged_sheet, filled_in, measure_rounds, rearrange};
+use harness::sheets::{any_lifts, fitting_lifts, lifelike_lifts, longest, Town, EXAMPLE};
+use harness::texts::{lifelike_text, text_of};
 use harness::{archive, reference};
 use std::collections::{BTreeMap, BTreeSet};
 
@@ -741,4 +743,165 @@ fn full_sheets_written_keep_every_recorder() {
     }
     let often = outcomes[1..].iter().all(|&pairs| pairs >= 2_000);
     assert!(often, "{outcomes:?}");
+}
+
+/// How many quarters follow one another.
+const QUARTERS: usize = 12;
+
+/// The answer for a quarter's sheet, from words read from `start` on, with its rounds and sums carried over.
+fn choose_quarter(sheet: &[u32], words: &[u64], start: usize) -> Answer {
+    let read = read_sheet(sheet).expect("the sheet fits");
+    let (out_len, next_len) = needs(&read.lifts);
+    let lent = Lent {
+        sheet,
+        words,
+        start,
+        out_len,
+        next_len,
+    };
+    let answer = agreed(lent);
+    check_read_back(sheet, &answer);
+    let next = read_sheet(&answer.next).expect("the sheet written fits");
+    let old_sums = next.old_rounds.iter();
+    let old_sums = old_sums.map(|(round, lifts)| (round, old_sum(lifts)));
+    let new_sums = read.new_rounds.iter();
+    let new_sums = new_sums.map(|(round, lifts)| (round, new_sum(lifts)));
+    assert!(old_sums.eq(new_sums));
+    answer
+}
+
+/// The sheet with a text's counts taken; archive and reference agree on it, and that all its lines are taken.
+fn counted_sheet(sheet: &[u32], text: &[u8], lines: usize) -> Vec<u32> {
+    let [proved, expected] = [archive::take_counts, reference::take_counts].map(|take| {
+        let mut sheet = sheet.to_vec();
+        (take(&mut sheet, text), sheet)
+    });
+    assert!(proved == expected);
+    assert_eq!(expected.0, Intake::Taken { lines });
+    expected.1
+}
+
+/// The sheet of the example quarter.
+fn example_sheet() -> Vec<u32> {
+    let bytes = include_bytes!("../../example/quarter/sheet.bin");
+    let words = bytes.as_chunks().0.iter();
+    words.map(|word| u32::from_le_bytes(*word)).collect()
+}
+
+/// The random words of the example quarter.
+fn example_words() -> Vec<u64> {
+    let bytes = include_bytes!("../../example/quarter/words.bin");
+    let words = bytes.as_chunks().0.iter();
+    words.map(|word| u64::from_le_bytes(*word)).collect()
+}
+
+#[test]
+fn twelve_quarters_of_the_example() {
+    let (mut sheet, words) = (example_sheet(), example_words());
+    let mut seeded = Seeded::new(35);
+    let mut start = 0;
+    for quarter in 0..QUARTERS {
+        let answer = choose_quarter(&sheet, &words, start);
+        let Reply::Chosen { choices: 84, words } = answer.reply else {
+            panic!("{:?}", answer.reply);
+        };
+        start += words;
+        // Once the rounds stay the same, each has its held lift.
+        let outcomes = choices_of(&answer.pairs).into_iter();
+        let mut outcomes = outcomes.map(|(_, _, outcome)| outcome);
+        assert!(quarter == 0 || outcomes.all(|outcome| outcome < 3));
+        let lifts = read_lifts(&answer.next).expect("the sheet written fits");
+        // Of 3,870 lifts 54 were withdrawn in the first quarter; about one in a hundred has no line.
+        assert_eq!(lifts.len(), 3_816);
+        let text = lifelike_text(&mut seeded, &lifts);
+        let lines = text.split_inclusive(|&byte| byte == b'\n').count();
+        assert!((3_750..3_816).contains(&lines), "{lines}");
+        sheet = counted_sheet(&answer.next, &text, lines);
+    }
+}
+
+/// The next quarter's sheet: half of the time the office has changed what was written, and then most lifts are counted.
+fn next_quarter(seeded: &mut Seeded, written: &[u32]) -> Vec<u32> {
+    let mut lifts = read_lifts(written).expect("the sheet written fits");
+    if seeded.below(2) == 0 {
+        rearrange(seeded, &mut lifts);
+    }
+    let changed = write_sheet(&lifts);
+    measure_rounds(seeded, &mut lifts);
+    let mut counted = lifts.clone();
+    counted.retain(|lift| !is_withdrawn(lift) && !lift.is_silent());
+    seeded.shuffle(&mut counted);
+    let sheet = counted_sheet(&changed, &text_of(&counted), counted.len());
+    assert_eq!(sheet, write_sheet(&lifts));
+    sheet
+}
+
+/// How many pairs had each outcome, and how many lifts were counted and not counted, in quarters in a row.
+#[derive(Default, Debug)]
+struct Course {
+    outcomes: [usize; 4],
+    counted: usize,
+    silent: usize,
+}
+
+impl Course {
+    /// Chooses for twelve quarters from these lifts on, reading on in one list of words.
+    fn run(&mut self, seeded: &mut Seeded, lifts: &[SheetLift]) {
+        let mut sheet = write_sheet(lifts);
+        let mut words = Vec::new();
+        for _ in 0..QUARTERS {
+            let start = words.len();
+            let read = read_sheet(&sheet).expect("the sheet fits");
+            add_sheet_words(seeded, &read, &mut words);
+            let answer = choose_quarter(&sheet, &words, start);
+            let reply = chosen(read.new_rounds.len(), words.len() - start);
+            assert_eq!(answer.reply, reply);
+            self.add(&read.lifts, &answer);
+            sheet = next_quarter(seeded, &answer.next);
+        }
+    }
+
+    /// Adds a quarter's lifts and choices.
+    fn add(&mut self, lifts: &[SheetLift], answer: &Answer) {
+        for (_, _, outcome) in choices_of(&answer.pairs) {
+            self.outcomes[outcome as usize] += 1;
+        }
+        let silent = lifts.iter().filter(|lift| lift.is_silent()).count();
+        let withdrawn = lifts.iter().filter(|lift| is_withdrawn(lift)).count();
+        self.silent += silent;
+        self.counted += lifts.len() - withdrawn - silent;
+    }
+
+    /// Checks that each outcome was met so many times, and that most lifts were counted but a tenth or more were not.
+    fn check(&self, pairs: usize) {
+        let often = self.outcomes[1..].iter().all(|&met| met >= pairs);
+        assert!(often, "{self:?}");
+        let some_silent = self.counted / 10..self.counted;
+        assert!(some_silent.contains(&self.silent), "{self:?}");
+    }
+}
+
+#[test]
+fn twelve_quarters_of_seeded_sheets() {
+    let mut seeded = Seeded::new(36);
+    let mut course = Course::default();
+    for _ in 0..2_000 {
+        let lifts = any_sort(&mut seeded);
+        course.run(&mut seeded, &lifts);
+    }
+    course.check(5_000);
+}
+
+#[test]
+fn twelve_quarters_of_full_sheets() {
+    let mut seeded = Seeded::new(37);
+    let mut course = Course::default();
+    course.run(&mut seeded, &longest());
+    for _ in 0..5 {
+        let lifts = fitting_lifts(&mut seeded, 4_096, 1_500);
+        course.run(&mut seeded, &lifts);
+        let lifts = lifelike_lifts(&mut seeded, LARGE_TOWN);
+        course.run(&mut seeded, &lifts);
+    }
+    course.check(500);
 }

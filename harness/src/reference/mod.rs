@@ -14,4 +14,4 @@ pub use panel::{choose_panel, new_rounds, report, NewRound, Reply};
 pub use round::{choose, choose_by, Choice, Lift, Outcome, Round};
 pub use sheet::{check, read_lifts, read_sheet, write_sheet, Sheet, SheetLift, Verdict};
 pub use sheet::{donors, new_sum, old_sum};
-pub use sheet::{LARGEST_SUM, LONGEST_SHEET, MOST_ROUNDS, NOT_COUNTED};
+pub use sheet::{LARGEST_SUM, LONGEST_SHEET, MOST_LIFTS, MOST_ROUNDS, NOT_COUNTED};

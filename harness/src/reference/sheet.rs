@@ -3,7 +3,7 @@
 use std::collections::{BTreeMap, BTreeSet};
 
 /// The most lifts a sheet has.
-const MOST_LIFTS: usize = 4_096;
+pub const MOST_LIFTS: usize = 4_096;
 
 /// The most words a sheet has.
 pub const LONGEST_SHEET: usize = 12_389;

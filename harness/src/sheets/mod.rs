@@ -3,12 +3,14 @@
 mod by_hand;
 mod damage;
 mod lifelike;
+mod quarters;
 mod sorts;
 mod words;
 
 pub use by_hand::{held, lift, longest, numbered, Place, EXAMPLE, NONE};
 pub use damage::{damaged_sheet, LIFT_DAMAGES, WORD_DAMAGES};
 pub use lifelike::{lifelike_lifts, Town};
+pub use quarters::{measure_rounds, rearrange};
 pub use sorts::{names_of_sheet_sorts, Checked};
 pub use words::{add_round_words, add_sheet_words};
 

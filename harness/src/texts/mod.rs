@@ -108,7 +108,7 @@ pub fn lifelike_text(seeded: &mut Seeded, lifts: &[SheetLift]) -> Vec<u8> {
     let mut lifts = lifts.to_vec();
     lifts.retain(|lift| lift.new_round > 0 && seeded.below(100) > 0);
     let entries = lifts.iter().map(|lift| {
-        let hundreds = next_count(seeded, lift.new_measure);
+        let hundreds = next_count(seeded, lift.filled_measure());
         let count = (100 * hundreds).saturating_sub(seeded.below(100) as u32);
         (lift.number, count)
     });
