@@ -1,7 +1,7 @@
-//! Times the archive's choice for a whole sheet and its taking of counts beside others: make bench
+//! Times the archive's choice for a whole sheet, with and without next quarter's sheet, and its taking of counts beside others: make bench
 
 use harness::examples::TOWN;
-use harness::reference::{write_sheet, Intake, Reply, SheetLift};
+use harness::reference::{write_sheet, Intake, Reply, SheetLift, LONGEST_SHEET};
 use harness::seeded::Seeded;
 use harness::sheets::{lifelike_lifts, Town};
 use harness::texts::text_of;
@@ -19,11 +19,23 @@ const WORDS: usize = 4_096;
 const ROUNDS: usize = 100;
 const REDRAWN: usize = 20;
 
-/// A choice for a whole sheet.
-type Chooser = fn(&[u32], &[u64], usize, &mut [u32]) -> Reply;
+/// A choice for a whole sheet, with words read from a start on, an output and a list for next quarter's sheet.
+type Chooser = fn(&[u32], &[u64], usize, &mut [u32], &mut [u32]) -> Reply;
 
-/// The archive's choice and the reference's.
-const CHOOSERS: [Chooser; 2] = [archive::choose_panel, reference::choose_panel];
+/// The archive's choice and the reference's, which write no sheet.
+const CHOOSERS: [Chooser; 2] = [
+    |sheet, words, start, out, _| archive::choose_panel(sheet, words, start, out),
+    |sheet, words, start, out, _| reference::choose_panel(sheet, words, start, out),
+];
+
+/// The archive's choice and the reference's, which write next quarter's sheet.
+const NEXT_CHOOSERS: [Chooser; 2] = [archive::choose_next, reference::choose_next];
+
+/// Output and next quarter's sheet, with room for any.
+type Written = ([u32; 2 * ROUNDS], [u32; LONGEST_SHEET]);
+
+/// Nothing written yet.
+const UNWRITTEN: Written = ([0; 2 * ROUNDS], [0; LONGEST_SHEET]);
 
 /// Takes counts into a sheet.
 type Taker = fn(&mut [u32], &[u8]) -> Intake;
@@ -41,17 +53,13 @@ fn main() {
     print_takings();
 }
 
-/// Prints the times of choices from sheets of three sizes.
+/// Prints the times of choices from sheets of three sizes, and of one that writes next quarter's sheet too.
 fn print_choices() {
-    println!("lifts  words  archive us  reference us  archive/reference");
+    println!("call         lifts  words  archive us  reference us  archive/reference");
     for lifts in [256, 1_024, 4_096] {
-        let town = Town {
-            lifts,
-            rounds: ROUNDS,
-            redrawn: REDRAWN,
-        };
-        print_choice_times(town);
+        print_choice_times("choose", CHOOSERS, lifts);
     }
+    print_choice_times("choose_next", NEXT_CHOOSERS, 4_096);
 }
 
 /// Prints the times of taking a line for each lift of a town, in the order of the sheet and in another.
@@ -72,27 +80,30 @@ fn halve(lift: &mut SheetLift) {
     lift.new_measure = lift.new_measure.div_ceil(2);
 }
 
-/// Prints the median times for a choice from a sheet of this size.
-fn print_choice_times(town: Town) {
-    let mut seeded = Seeded::new(town.lifts as u64);
+/// Prints the median times for choices of this name from a sheet of so many lifts.
+fn print_choice_times(name: &str, choosers: [Chooser; 2], lifts: usize) {
+    let town = Town {
+        lifts,
+        rounds: ROUNDS,
+        redrawn: REDRAWN,
+    };
+    let mut seeded = Seeded::new(lifts as u64);
     let sheet = write_sheet(&lifelike_lifts(&mut seeded, town));
     let words: Vec<u64> = (0..WORDS).map(|_| seeded.word()).collect();
-    let read = words_read(&sheet, &words);
-    let [archive, reference] = median_times(&sheet, &words);
+    let read = words_read(choosers, &sheet, &words);
+    let [archive, reference] = median_times(choosers, &sheet, &words);
     let ratio = archive / reference;
-    println!(
-        "{:5}  {read:5}  {archive:10.1}  {reference:12.1}  {ratio:17.3}",
-        town.lifts
-    );
+    println!("{name:11}  {lifts:5}  {read:5}  {archive:10.1}  {reference:12.1}  {ratio:17.3}");
 }
 
 /// How many words a choice reads; archive and reference agree on it.
-fn words_read(sheet: &[u32], words: &[u64]) -> usize {
-    let [proved, expected] = CHOOSERS.map(|choose| {
-        let mut out = [0; 2 * ROUNDS];
-        (choose(sheet, words, 0, &mut out), out)
+fn words_read(choosers: [Chooser; 2], sheet: &[u32], words: &[u64]) -> usize {
+    let [proved, expected] = choosers.map(|choose| {
+        let (mut out, mut next) = UNWRITTEN;
+        let reply = choose(sheet, words, 0, &mut out, &mut next);
+        (reply, out, next)
     });
-    assert_eq!(proved, expected);
+    assert!(proved == expected);
     match expected.0 {
         Reply::Chosen { choices, words } if choices == ROUNDS => words,
         reply => panic!("{reply:?}"),
@@ -100,13 +111,14 @@ fn words_read(sheet: &[u32], words: &[u64]) -> usize {
 }
 
 /// The median time of each choice in microseconds, both made in turn.
-fn median_times(sheet: &[u32], words: &[u64]) -> [f64; 2] {
-    let mut outs = [[0; 2 * ROUNDS]; 2];
+fn median_times(choosers: [Chooser; 2], sheet: &[u32], words: &[u64]) -> [f64; 2] {
+    let mut written = [UNWRITTEN; 2];
     let mut times = [Vec::new(), Vec::new()];
     for _ in 0..REPETITIONS {
-        for (choose, (out, times)) in CHOOSERS.iter().zip(outs.iter_mut().zip(&mut times)) {
+        let each = choosers.iter().zip(written.iter_mut().zip(&mut times));
+        for (choose, ((out, next), times)) in each {
             let begun = Instant::now();
-            black_box(choose(black_box(sheet), black_box(words), 0, out));
+            black_box(choose(black_box(sheet), black_box(words), 0, out, next));
             times.push(begun.elapsed());
         }
     }
