@@ -81,6 +81,14 @@ fn refused(number: u32, place: usize) -> Reply {
     Reply::Refused { number, place }
 }
 
+/// The document's number, 0 for choices.
+fn number_of(reply: Reply) -> usize {
+    match reply {
+        Reply::Refused { number, .. } => number as usize,
+        Reply::Chosen { .. } => 0,
+    }
+}
+
 /// A sheet's words, in a row for each lift and one for the end.
 type Rows = &'static [&'static [u32]];
 
@@ -237,7 +245,7 @@ const CASES: [Case; 8] = [
     HIGHEST,
 ];
 
-/// Checks that a case is answered as it says, also where more is lent, and that all that is less is refused.
+/// Checks that a case is answered as it says, also where more is lent.
 fn check(case: &Case) {
     let (name, words) = (case.name, case.words);
     let sheet = case.sheet.concat();
@@ -246,39 +254,42 @@ fn check(case: &Case) {
         pairs: case.pairs.concat(),
         next: case.next.concat(),
     };
-    let (out_len, next_len) = (expected.pairs.len(), expected.next.len());
     let lent = Lent {
         sheet: &sheet,
         words,
         start: 0,
-        out_len,
-        next_len,
+        out_len: expected.pairs.len(),
+        next_len: expected.next.len(),
     };
     assert_eq!(agreed(lent), expected, "{name}");
     let more = [&[7, u64::MAX], words, &[0, 1]].concat();
     let more = Lent {
         words: &more,
         start: 2,
-        out_len: out_len + 3,
-        next_len: next_len + 5,
+        out_len: lent.out_len + 3,
+        next_len: lent.next_len + 5,
         ..lent
     };
     assert_eq!(agreed(more), expected, "{name}");
-    for next_len in 0..next_len {
+    check_less(name, lent);
+}
+
+/// Checks that all that is less than what is lent, which just suffices from 0 on, is refused.
+fn check_less(name: &str, lent: Lent) {
+    for next_len in 0..lent.next_len {
         let reply = agreed(Lent { next_len, ..lent }).reply;
-        assert_eq!(reply, refused(17, expected.next.len()), "{name}");
+        assert_eq!(reply, refused(17, lent.next_len), "{name}");
     }
-    for out_len in 0..out_len {
+    for out_len in 0..lent.out_len {
         let reply = agreed(Lent { out_len, ..lent }).reply;
-        assert_eq!(reply, refused(12, expected.pairs.len()), "{name}");
+        assert_eq!(reply, refused(12, lent.out_len), "{name}");
     }
-    for end in 0..words.len() {
-        let words = &words[..end];
+    for end in 0..lent.words.len() {
+        let words = &lent.words[..end];
         let reply = agreed(Lent { words, ..lent }).reply;
-        let short = matches!(reply, Reply::Refused { number: 13, .. });
-        assert!(short, "{name}: {reply:?}");
+        assert_eq!(number_of(reply), 13, "{name}");
     }
-    let start = words.len() + 1;
+    let start = lent.words.len() + 1;
     let reply = agreed(Lent { start, ..lent }).reply;
     assert_eq!(reply, refused(11, start), "{name}");
 }
@@ -485,23 +496,17 @@ fn is_withdrawn(lift: &SheetLift) -> bool {
     lift.new_round == 0
 }
 
-/// The document's number, 0 for choices.
-fn number_of(reply: Reply) -> usize {
-    match reply {
-        Reply::Refused { number, .. } => number as usize,
-        Reply::Chosen { .. } => 0,
-    }
-}
-
 /// How often a number was given with a list's length on a side.
 type Sides = BTreeMap<(usize, Side), usize>;
 
-/// How often each number was given, on which sides of what output and next sheet need, and how many sheets of each sort were chosen from.
+/// How often each number was given, where the lengths then lay, and how many sheets of each sort were chosen from.
 #[derive(Default, Debug)]
 struct Seen {
     numbers: [usize; 18],
-    outs: Sides,
-    nexts: Sides,
+    /// Up to the start.
+    words: Sides,
+    out: Sides,
+    next: Sides,
     sorts: [usize; SORTS.len()],
 }
 
@@ -509,25 +514,43 @@ impl Seen {
     /// Adds a case: what was lent for these lifts, and the number given.
     fn add(&mut self, lent: Lent, lifts: &[SheetLift], number: usize) {
         let (out_needed, next_needed) = needs(lifts);
-        let out_side = side_of(lent.out_len, out_needed);
-        let next_side = side_of(lent.next_len, next_needed);
+        let words = side_of(lent.words.len(), lent.start);
+        let out = side_of(lent.out_len, out_needed);
+        let next = side_of(lent.next_len, next_needed);
         self.numbers[number] += 1;
-        *self.outs.entry((number, out_side)).or_default() += 1;
-        *self.nexts.entry((number, next_side)).or_default() += 1;
+        *self.words.entry((number, words)).or_default() += 1;
+        *self.out.entry((number, out)).or_default() += 1;
+        *self.next.entry((number, next)).or_default() += 1;
         for ((_, has), sheets) in SORTS.iter().zip(&mut self.sorts) {
             *sheets += usize::from(number == 0 && has(lifts));
         }
     }
+
+    /// Checks that each number was given on both sides of each bound, and each sort chosen from, 500 times or more.
+    fn check(&self) {
+        // There is no text, so 14 and 15 are never given.
+        let [given @ .., 0, 0, newcomers, short_sheets] = &self.numbers else {
+            panic!("{self:?}");
+        };
+        let given = given.iter().chain([newcomers, short_sheets]);
+        assert!(given.min() >= Some(&500), "{self:?}");
+        for ((name, _), sheets) in SORTS.iter().zip(self.sorts) {
+            assert!(sheets >= 500, "{name}: {sheets}");
+        }
+        check_sides(&self.words, 11, &[12, 17, 13, 0]);
+        check_sides(&self.out, 12, &[17, 13, 0]);
+        check_sides(&self.next, 17, &[13, 0]);
+    }
 }
 
-/// Checks that each number was given 500 times or more on each of these sides.
-fn check_sides(sides: &Sides, expected: &[(usize, &[Side])]) {
-    for &(number, expected) in expected {
-        for &side in expected {
-            let cases = sides.get(&(number, side));
-            let often = cases.is_some_and(|&cases| cases >= 500);
-            assert!(often, "{number} {side:?}: {cases:?}");
-        }
+/// Checks that a list was empty, one word short and shorter by more where it was refused, and just long enough and longer where a later number was given, 500 times or more.
+fn check_sides(sides: &Sides, refusal: usize, later: &[usize]) {
+    let short = [Side::Empty, Side::OneShort, Side::Shorter];
+    let short = short.map(|side| (refusal, side));
+    let enough = |&number: &usize| [(number, Side::Just), (number, Side::More)];
+    for key in short.into_iter().chain(later.iter().flat_map(enough)) {
+        let cases = sides.get(&key);
+        assert!(cases >= Some(&500), "{key:?}: {cases:?}");
     }
 }
 
@@ -554,20 +577,7 @@ fn seeded_sheets_agree() {
         };
         seen.add(lent, &lifts, number_of(agreed(lent).reply));
     }
-    // There is no text, so 14 and 15 are never given.
-    let [given @ .., 0, 0, newcomers, short_sheets] = seen.numbers else {
-        panic!("{seen:?}");
-    };
-    assert!(given.iter().all(|&sheets| sheets >= 500), "{seen:?}");
-    assert!(newcomers >= 500 && short_sheets >= 500, "{seen:?}");
-    assert!(seen.sorts.iter().all(|&sheets| sheets >= 500), "{seen:?}");
-    use Side::{Empty, Just, More, OneShort, Shorter};
-    let (short, enough) = ([Empty, OneShort, Shorter], [Just, More]);
-    let all = [&short[..], &enough].concat();
-    let of_out: [(_, &[Side]); 4] = [(0, &enough), (12, &short), (13, &enough), (17, &enough)];
-    check_sides(&seen.outs, &of_out);
-    let of_next: [(_, &[Side]); 4] = [(0, &enough), (12, &all), (13, &enough), (17, &short)];
-    check_sides(&seen.nexts, &of_next);
+    seen.check();
 }
 
 /// A length that is too short where it is to be so and can be: one less, none or any less; else just enough or more.
@@ -614,6 +624,7 @@ fn meeting<'a>(seeded: &mut Seeded, script: &'a Script) -> (Lent<'a>, Vec<(u32, 
 fn refusals_meet_in_order() {
     let mut seeded = Seeded::new(32);
     let mut met: BTreeMap<Vec<u32>, usize> = BTreeMap::new();
+    let mut one_word_short = 0;
     for _ in 0..60_000 {
         let lifts = any_sort(&mut seeded);
         let script = Script::new(&mut seeded, lifts);
@@ -624,12 +635,15 @@ fn refusals_meet_in_order() {
             None => chosen(script.rounds, read),
         };
         assert_eq!(agreed(lent).reply, expected, "{lent:08X?}");
-        let numbers = refusals.iter().map(|(number, _)| *number);
-        *met.entry(numbers.collect()).or_default() += 1;
+        let numbers: Vec<u32> = refusals.iter().map(|(number, _)| *number).collect();
+        let one_short = lent.words.len() + 1 == script.words.len();
+        one_word_short += usize::from(numbers == [13] && one_short);
+        *met.entry(numbers).or_default() += 1;
     }
     // Each of 12, 17 and 13 with or without the others; behind 11, which leaves no draw to fall short, 12 and 17 alone.
     assert_eq!(met.len(), 8 + 4, "{met:?}");
     assert!(met.values().all(|&cases| cases >= 500), "{met:?}");
+    assert!(one_word_short >= 500, "{one_word_short}");
 }
 
 /// What is lent for a script's choice: all of it just suffices.
