@@ -1,11 +1,12 @@
 //! Compares the archive's choice that writes next quarter's sheet with the reference: cases by hand, seeded sheets, and twelve quarters in a row.
 
 use harness::lent::{any_count, any_len, any_start, Marked, Script};
-use harness::reference::{new_sum, old_sum, read_lifts, read_sheet, write_sheet};
+use harness::reference::{donors, new_sum, old_sum, read_lifts, read_sheet, write_sheet};
 use harness::reference::{Intake, Reply, SheetLift, Verdict};
 use harness::seeded::Seeded;
 use harness::sheets::{add_sheet_words, damaged_sheet, filled_in, measure_rounds, rearrange};
 use harness::sheets::{any_lifts, fitting_lifts, lifelike_lifts, longest, Town, EXAMPLE};
+use harness::sheets::{names_of_sheet_sorts, Checked};
 use harness::texts::{lifelike_text, text_of};
 use harness::{archive, reference};
 use std::collections::{BTreeMap, BTreeSet};
@@ -462,34 +463,46 @@ fn side_of(len: usize, needed: usize) -> Side {
 /// A sort's name, and whether lifts are of it.
 type Sort = (&'static str, fn(&[SheetLift]) -> bool);
 
-/// The sorts of sheets that are to be chosen from.
-const SORTS: [Sort; 9] = [
+/// Sorts of sheets that are to be chosen from, beside those with a lift that was not counted.
+const SORTS: [Sort; 7] = [
     ("no lift", |lifts| lifts.is_empty()),
-    ("lifts, all withdrawn", |lifts| {
+    ("all withdrawn", |lifts| {
         !lifts.is_empty() && lifts.iter().all(is_withdrawn)
     }),
-    ("lifts, some withdrawn", |lifts| {
+    ("some withdrawn", |lifts| {
         lifts.iter().any(is_withdrawn) && !lifts.iter().all(is_withdrawn)
     }),
     ("held lift withdrawn", |lifts| {
         lifts.iter().any(|lift| lift.held && is_withdrawn(lift))
     }),
-    ("lift not counted", |lifts| {
-        lifts.iter().any(SheetLift::is_silent)
-    }),
-    ("held lift not counted", |lifts| {
-        lifts.iter().any(|lift| lift.held && lift.is_silent())
-    }),
-    ("lift of old measure 0 not counted", |lifts| {
-        let mut silent = lifts.iter().filter(|lift| lift.is_silent());
-        silent.any(|lift| lift.old_measure == 0)
-    }),
     ("newcomer", |lifts| {
         let mut newcomers = lifts.iter().filter(|lift| lift.old_round == 0);
         newcomers.any(|lift| !is_withdrawn(lift))
     }),
+    ("two donors", |lifts| {
+        (1..=100).any(|round| {
+            let lifts = lifts.iter().filter(|lift| lift.new_round == round);
+            donors(&lifts.copied().collect::<Vec<_>>()).len() == 2
+        })
+    }),
     ("100 lifts or more", |lifts| lifts.len() >= 100),
 ];
+
+/// The names of the sorts that lifts of a sheet that fits are of.
+fn sorts_of(lifts: &[SheetLift]) -> Vec<&'static str> {
+    let verdict = reference::check(&write_sheet(lifts));
+    let checked = Checked::new(lifts.to_vec(), verdict);
+    let sorts = SORTS.iter().filter(|(_, has)| has(lifts));
+    let names = sorts.map(|(name, _)| *name);
+    names.chain(checked.sorts()).collect()
+}
+
+/// The names of all sorts of sheets that fit.
+fn names_of_sorts() -> impl Iterator<Item = &'static str> {
+    let silent = names_of_sheet_sorts().into_iter();
+    let silent = silent.filter(|name| name.starts_with("fits"));
+    SORTS.iter().map(|(name, _)| *name).chain(silent)
+}
 
 /// Whether a lift is withdrawn.
 fn is_withdrawn(lift: &SheetLift) -> bool {
@@ -507,7 +520,7 @@ struct Seen {
     words: Sides,
     out: Sides,
     next: Sides,
-    sorts: [usize; SORTS.len()],
+    sorts: BTreeMap<&'static str, usize>,
 }
 
 impl Seen {
@@ -521,8 +534,10 @@ impl Seen {
         *self.words.entry((number, words)).or_default() += 1;
         *self.out.entry((number, out)).or_default() += 1;
         *self.next.entry((number, next)).or_default() += 1;
-        for ((_, has), sheets) in SORTS.iter().zip(&mut self.sorts) {
-            *sheets += usize::from(number == 0 && has(lifts));
+        if number == 0 {
+            for name in sorts_of(lifts) {
+                *self.sorts.entry(name).or_default() += 1;
+            }
         }
     }
 
@@ -534,8 +549,9 @@ impl Seen {
         };
         let given = given.iter().chain([newcomers, short_sheets]);
         assert!(given.min() >= Some(&500), "{self:?}");
-        for ((name, _), sheets) in SORTS.iter().zip(self.sorts) {
-            assert!(sheets >= 500, "{name}: {sheets}");
+        for name in names_of_sorts() {
+            let sheets = self.sorts.get(name);
+            assert!(sheets >= Some(&500), "{name}: {sheets:?}");
         }
         check_sides(&self.words, 11, &[12, 17, 13, 0]);
         check_sides(&self.out, 12, &[17, 13, 0]);
