@@ -1,11 +1,11 @@
 -- Next quarter's sheet, run at once: each round is its own only donor and changes nothing, so its held lift stays and nothing is drawn.
-use Prim.Native.Nat.{ℕ, zero, suc, _+_, _*_, _-_, _≤_, _<_}
+use Prim.Native.Nat.{ℕ, zero, suc, _+_, _*_, _≤_, _<_}
 use mathlib.Core.Path.{_≡_, refl, sym, ap, ap₂, _∙_}
-use mathlib.Core.Bool.{Bool, true, false, cond, _||_, or-true, false≢true}
-use mathlib.Core.List.{List, [], _∷_, map, List·Memᴰ, List·Memᴰ·head, List·Memᴰ·tail}
+use mathlib.Core.Bool.{Bool, true, false, or-true, false≢true}
+use mathlib.Core.List.{List, [], _∷_, map, List·Memᴰ·head, List·Memᴰ·tail}
 use native.Mathlib.Nat.{sub-self}
 use native.Mathlib.Omega.{arith}
-use lib.Dec.{eqb, ltb}
+use lib.Dec.{eqb}
 use lib.ListN.{length, getD, length-map}
 use borrow.Author.Tests.{eqb-true, eq-eqb, lt-ltb, le-ltb}
 use Rattle.laws.specs.Plan.{done}
@@ -14,8 +14,8 @@ use Rattle.draw.specs.Run.{run}
 use Rattle.round.specs.Choice.{selection, isHeld, outcome}
 use Rattle.round.specs.Share.{Initial, here, elsewhere, heldOf}
 use Rattle.round.specs.declared.Held.the-variants.{Single}
-use Rattle.sheet.specs.Sheet.{mostRounds, Lift, lifts}
-use Rattle.sheet.specs.Rounds.{placeAt, inUse, sends, donors, ofRound}
+use Rattle.sheet.specs.Sheet.{Lift, lifts}
+use Rattle.sheet.specs.Rounds.{placeAt, inUse, donors, ofRound}
 use Rattle.sheet.specs.Refusal.{fits, verdict}
 use Rattle.sheet.specs.Reply.{replied}
 use Rattle.sheet.specs.Law.{Fit}
@@ -27,10 +27,10 @@ use Rattle.selection.proofs.Held.{sheet-length, sheet-short}
 use Rattle.selection.proofs.Flags.{ofRound-all, sends-has, flagged}
 use Rattle.selection.proofs.Steps.{Steps, none, some, steps, steps-count}
 use Rattle.selection.proofs.Chosen.{Measured, run-measured}
-use Rattle.carry.specs.Next.{remaining, carried, carriedOn, isChosen, nextLifts, nextSheet}
-use Rattle.carry.specs.Law.{kept, Carries, CarriesTheorem}
+use Rattle.carry.specs.Next.{remaining, carried, isChosen, nextLifts, nextSheet}
+use Rattle.carry.specs.Law.{again, CarriesTheorem}
 use Rattle.carry.proofs.Rounds.{inUse-next, donors-next, ofRound-next}
-use Rattle.carry.proofs.Kept.{Still, still-plan}
+use Rattle.carry.proofs.Still.{Still, still-plan}
 use Rattle.carry.proofs.Marks.{Used, all-used, carried-in, fit-next}
 
 -- ---- one round
@@ -93,7 +93,7 @@ module _ (ls : List Lift) (cs : List Choice) (fit : Fit (nextLifts cs ls)) {r : 
 
 module _ (ls : List Lift) (f : Fit ls) (cs : List Choice) (fit : Fit (nextLifts cs ls)) where
   keep-rounds : {ws : List ℕ} {from next : ℕ} {rs : List ℕ} {ds : List Choice} → All (Used ls) rs → ((l : Lift) → isChosen ds l ≡ true → isChosen cs l ≡ true)
-      → Steps ls ws from rs ds next → (vs : List ℕ) (start : ℕ) → panelFrom (nextLifts cs ls) vs start rs ≡ chosen (map kept ds) start
+      → Steps ls ws from rs ds next → (vs : List ℕ) (start : ℕ) → panelFrom (nextLifts cs ls) vs start rs ≡ chosen (map again ds) start
   unfolding panelFrom run isChosen
   keep-rounds u sub none vs start = refl
   keep-rounds {ws} {from} u sub (some {r = r} {s = s} q k) vs start =
@@ -121,15 +121,15 @@ module _ (ls : List Lift) (f : Fit ls) {ws : List ℕ} {start next : ℕ} {cs : 
       decided (nextSheet cs ls) .passes (fits-sheet fit (sheet-short fit))
       ∙ ap (λ us. fits (length us) (length (inUse New us))) back ∙ ap₂ fits many (ap length (inUse-next (isChosen cs) New ls))
 
-  keeps : (vs : List ℕ) (at : ℕ) → panel (nextLifts cs ls) vs at ≡ chosen (map kept cs) at
+  keeps : (vs : List ℕ) (at : ℕ) → panel (nextLifts cs ls) vs at ≡ chosen (map again cs) at
   keeps vs at = ap (panelFrom (nextLifts cs ls) vs at) (inUse-next (isChosen cs) New ls) ∙ keep-rounds ls f cs fit (all-used ls) (λ l e. e) k vs at
 
   replies : (vs : List ℕ) (at room : ℕ) → at ≤ length vs → 2 * length cs ≤ room → reply (nextSheet cs ls) vs at room ≡ replied (length cs) 0
   unfolding reply
   replies vs at room a b =
-      rw (fitting, back, ← steps-count k .0, le-ltb (length vs) at a, le-ltb room (2 * length cs) b, keeps vs at, length-map cs kept, sub-self at)
+      rw (fitting, back, ← steps-count k .0, le-ltb (length vs) at a, le-ltb room (2 * length cs) b, keeps vs at, length-map cs again, sub-self at)
 
-  writes : (vs : List ℕ) (at : ℕ) (out : List ℕ) → at ≤ length vs → 2 * length cs ≤ length out → output (nextSheet cs ls) vs at out ≡ written (map kept cs) out
+  writes : (vs : List ℕ) (at : ℕ) (out : List ℕ) → at ≤ length vs → 2 * length cs ≤ length out → output (nextSheet cs ls) vs at out ≡ written (map again cs) out
   unfolding output
   writes vs at out a b = rw (replies vs at (length out) a b, back, keeps vs at)
 

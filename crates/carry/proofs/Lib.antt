@@ -1,5 +1,5 @@
 pub mod Rounds
-pub mod Kept
+pub mod Still
 pub mod Marks
 pub mod Carrying
 pub mod Worked

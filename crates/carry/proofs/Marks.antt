@@ -1,43 +1,43 @@
 -- The choices as held marks: they are an initial selection of the lifts carried on, which so marked fit.
-use Prim.Native.Nat.{ℕ, _+_, _≤_, _<_}
-use mathlib.Core.Path.{_≡_, refl, sym, ap, ap₂, subst, _∙_}
+use Prim.Native.Nat.{ℕ, _≤_, _<_}
+use mathlib.Core.Path.{_≡_, refl, ap, ap₂, subst}
 use mathlib.Core.Bool.{Bool, true, false, cond, _||_, false≢true}
 use mathlib.Core.List.{List, [], _∷_, map, List·Memᴰ, List·Memᴰ·head, List·Memᴰ·tail}
 use native.Mathlib.Omega.{arith}
 use lib.Dec.{eqb, ltb}
-use lib.ListN.{length, length-map}
-use borrow.Author.Tests.{eqb-true, ne-eqb, ltb-true}
+use lib.ListN.{length-map}
+use borrow.Author.Tests.{ne-eqb, ltb-true}
 use Rattle.laws.proofs.Lists.{All}
 use Rattle.sheet.specs.Sheet.{mostRounds, Lift}
-use Rattle.sheet.specs.Rounds.{placeAt, named, inUse}
+use Rattle.sheet.specs.Rounds.{named, inUse}
 use Rattle.sheet.specs.Law.{Fit}
 use Rattle.sheet.specs.declared.Side.the-variants.{Old, New}
 use Rattle.sheet.proofs.Those.{those-in}
 use Rattle.selection.specs.Choice.{Choice, liftAt}
-use Rattle.selection.specs.Initial.{names, holding, marked}
+use Rattle.selection.specs.Initial.{names, marked}
 use Rattle.selection.proofs.Naming.{Selected, none as selected-none, some as selected-some}
 use Rattle.selection.proofs.MarkedFits.{Unmarked, fit-marked}
 use Rattle.selection.proofs.Steps.{Steps, none, some}
-use Rattle.selection.proofs.Chosen.{Measured, run-measured}
+use Rattle.selection.proofs.Chosen.{run-measured}
 use Rattle.carry.specs.Next.{remaining, carried, carriedOn, isChosen, nextLifts}
 use Rattle.carry.proofs.Rounds.{named-next, sumOf-next, inUse-next, few-donors, listed-next, remaining-few}
 
 -- ---- the lifts carried on, none of them held
 
-abbrev nobody : Lift → Bool
-nobody l = false
+abbrev noneHeld : Lift → Bool
+noneHeld l = false
 
-unmarked : {ls : List Lift} → Fit ls → Unmarked (carriedOn nobody ls)
+unmarked : {ls : List Lift} → Fit ls → Unmarked (carriedOn noneHeld ls)
 unmarked {ls} f =
     record {
       listable = record {
-        listed = listed-next nobody 0 ls (λ l i e. absurd (false≢true e)) (f .listable .listed);
-        few = rw (length-map (remaining ls) (carried nobody)) (omega (arith, remaining-few ls, f .listable .few));
+        listed = listed-next noneHeld 0 ls (λ l i e. absurd (false≢true e)) (f .listable .listed);
+        few = rw (length-map (remaining ls) (carried noneHeld)) (omega (arith, remaining-few ls, f .listable .few));
       };
-      old = λ r l h. rw (sumOf-next nobody Old r l ls) (f .rounds .new r l h);
-      new = λ r l h. rw (sumOf-next nobody New r l ls) (f .rounds .new r l h);
-      measured = λ r l h. rw (named-next nobody New r l ls, sumOf-next nobody New r l ls) (f .rounds .measured r l h);
-      donors = λ r l h. few-donors nobody r l h ls;
+      old = λ r l h. rw (sumOf-next noneHeld Old r l ls) (f .rounds .new r l h);
+      new = λ r l h. rw (sumOf-next noneHeld New r l ls) (f .rounds .new r l h);
+      measured = λ r l h. rw (named-next noneHeld New r l ls, sumOf-next noneHeld New r l ls) (f .rounds .measured r l h);
+      donors = λ r l h. few-donors noneHeld r l h ls;
     }
 
 -- a lift of a new round is carried on
@@ -68,7 +68,7 @@ all-used ls r m =
 -- the lifts chosen, as a selection: it names the choices
 record Marks (ls : List Lift) (rs : List ℕ) (cs : List Choice) : Type 0 where
   lifts : List Lift
-  selected : Selected (carriedOn nobody ls) rs lifts
+  selected : Selected (carriedOn noneHeld ls) rs lifts
   same : (l : Lift) → names lifts (l .number) ≡ isChosen cs l
 
 marks : {ls : List Lift} → Fit ls → {ws : List ℕ} {from next : ℕ} {rs : List ℕ} {cs : List Choice} → All (Used ls) rs → Steps ls ws from rs cs next → Marks ls rs cs
@@ -80,14 +80,14 @@ marks {ls} f {ws} {from} u (some {r = r} {s = s} q k) =
     let m = marks f (λ t i. u t (List·Memᴰ·tail i)) k in
     let x : Lift = liftAt r ls (s .place) in
     record {
-      lifts = carried nobody x ∷ m .lifts;
-      selected = selected-some (carried-in nobody (a .inside) (omega (arith, a .round, used .low))) (a .round) (a .some) (m .selected);
+      lifts = carried noneHeld x ∷ m .lifts;
+      selected = selected-some (carried-in noneHeld (a .inside) (omega (arith, a .round, used .low))) (a .round) (a .some) (m .selected);
       same = λ l. ap (λ b. eqb (x .number) (l .number) || b) (m .same l);
     }
 
 -- marking them is marking the choices
 marked-next : (m : List Lift) (cs : List Choice) → ((l : Lift) → names m (l .number) ≡ isChosen cs l) → (us : List Lift)
-    → marked m (map (carried nobody) us) ≡ map (carried (isChosen cs)) us
+    → marked m (map (carried noneHeld) us) ≡ map (carried (isChosen cs)) us
 unfolding marked
 marked-next m cs e [] = refl
 marked-next m cs e (u ∷ us) = ap₂ (λ h ls. carried (λ _. h) u ∷ ls) (e u) (marked-next m cs e us)
@@ -96,5 +96,5 @@ marked-next m cs e (u ∷ us) = ap₂ (λ h ls. carried (λ _. h) u ∷ ls) (e u
 pub fit-next : {ls : List Lift} → Fit ls → {ws : List ℕ} {from next : ℕ} {cs : List Choice} → Steps ls ws from (inUse New ls) cs next → Fit (nextLifts cs ls)
 fit-next {ls} f {cs = cs} k =
     let m = marks f (all-used ls) k in
-    let s : Selected (carriedOn nobody ls) (inUse Old (carriedOn nobody ls)) (m .lifts) = rw (inUse-next nobody Old ls) (m .selected) in
+    let s : Selected (carriedOn noneHeld ls) (inUse Old (carriedOn noneHeld ls)) (m .lifts) = rw (inUse-next noneHeld Old ls) (m .selected) in
     subst Fit (marked-next (m .lifts) cs (m .same) (remaining ls)) (fit-marked (unmarked f) s)

@@ -1,7 +1,7 @@
 -- Lifts carried on: every round has the sums of this quarter's new round, and is its own only donor.
-use Prim.Native.Nat.{ℕ, suc, _+_, _≤_, _<_}
+use Prim.Native.Nat.{ℕ, _+_, _≤_, _<_}
 use mathlib.Core.Path.{_≡_, refl, sym, ap, ap₂, _∙_}
-use mathlib.Core.Bool.{Bool, true, false, cond, _&&_, _||_}
+use mathlib.Core.Bool.{Bool, true, false, cond, _&&_}
 use mathlib.Core.List.{List, [], _∷_, map, List·Memᴰ, List·Memᴰ·head, List·Memᴰ·tail}
 use native.Mathlib.Omega.{arith}
 use lib.Dec.{eqb, ltb, leb}
@@ -10,8 +10,8 @@ use borrow.Author.Tests.{eqb-true, eqb-false, ne-eqb}
 use Rattle.laws.specs.Sum.{totalBy}
 use Rattle.sheet.specs.Sheet.{mostRounds, notCounted, oldKind, newKind, Lift}
 use Rattle.sheet.specs.Reading.{tooLarge}
-use Rattle.sheet.specs.Rounds.{filledIn, placeAt, named, inUse, sumOf, comes, sends, donors, ofRound}
-use Rattle.sheet.specs.Law.{Placed, Proper, Listed}
+use Rattle.sheet.specs.Rounds.{filledIn, placeAt, named, inUse, sumOf, sends, donors, ofRound}
+use Rattle.sheet.specs.Law.{Listed}
 use Rattle.sheet.specs.Tables.{fieldOf}
 use Rattle.sheet.specs.declared.Field.the-variants.{Round, Unit}
 use Rattle.sheet.specs.declared.Side.{Side}

@@ -12,9 +12,9 @@ use Rattle.sheet.specs.declared.Side.the-variants.{New}
 use Rattle.selection.specs.Choice.{Choice, chosen, panel, written, reply, output}
 use Rattle.carry.specs.Next.{remaining, nextLifts, nextSheet, wordsNeeded}
 
--- a choice whose lift is kept, with nothing drawn
-abbrev pub kept : Choice → Choice
-kept c = record { round = c .round; number = c .number; outcome = 1; values = [] }
+-- a choice made again: its lift is kept, and nothing is drawn
+abbrev pub again : Choice → Choice
+again c = record { round = c .round; number = c .number; outcome = 1; values = [] }
 
 -- some choices and the sheet that is written from them
 pub record Carries (ls : List Lift) (cs : List Choice) : Type 0 where
@@ -25,10 +25,10 @@ pub record Carries (ls : List Lift) (cs : List Choice) : Type 0 where
   -- it has "the words needed", which are known before any draw
   pub long : length (nextSheet cs ls) ≡ wordsNeeded ls (length (inUse New ls))
   -- "running it at once must keep every recorder and read no chance word", whatever words there are
-  pub keeps : (ws : List ℕ) (start : ℕ) → panel (nextLifts cs ls) ws start ≡ chosen (map kept cs) start
+  pub keeps : (ws : List ℕ) (start : ℕ) → panel (nextLifts cs ls) ws start ≡ chosen (map again cs) start
   pub replies : (ws : List ℕ) (start room : ℕ) → start ≤ length ws → 2 * length cs ≤ room → reply (nextSheet cs ls) ws start room ≡ replied (length cs) 0
   pub writes : (ws : List ℕ) (start : ℕ) (out : List ℕ) → start ≤ length ws → 2 * length cs ≤ length out
-      → output (nextSheet cs ls) ws start out ≡ written (map kept cs) out
+      → output (nextSheet cs ls) ws start out ≡ written (map again cs) out
 
 -- so it is for all random words, every start and the choices that they give
 abbrev pub CarriesAll : List Lift → Type 0

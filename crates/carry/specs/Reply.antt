@@ -12,18 +12,18 @@ use Rattle.selection.specs.Choice.{Panel, chosen, short, panel, ofPanel, unless
 use Rattle.carry.specs.Next.{nextSheet, wordsNeeded, onto}
 
 -- "17 when the lent sheet has too few words; place the words needed, after 12 and before 13."
-abbrev pub ofLent : List Lift → ℕ → List ℕ → (start room space : ℕ) → Reply
-ofLent ls rounds ws start room space =
+abbrev pub ofLentNext : List Lift → ℕ → List ℕ → (start room space : ℕ) → Reply
+ofLentNext ls rounds ws start room space =
     unlessLacking rounds (length ws) start room
     (cond (ltb space (wordsNeeded ls rounds)) (ofRefusal (numbered 17 (wordsNeeded ls rounds))) (ofPanel start (panel ls ws start)))
 
 -- the reply to a sheet, random words, a start position, an output of so many words and a lent sheet of so many
-unfoldable pub reply : List ℕ → List ℕ → (start room space : ℕ) → Reply
-reply sheet ws start room space = ofVerdict (verdict sheet) (λ rounds. ofLent (lifts sheet) rounds ws start room space)
+unfoldable pub replyNext : List ℕ → List ℕ → (start room space : ℕ) → Reply
+replyNext sheet ws start room space = ofVerdict (verdict sheet) (λ rounds. ofLentNext (lifts sheet) rounds ws start room space)
 
 -- the output after the call
-unfoldable pub output : List ℕ → List ℕ → ℕ → List ℕ → ℕ → List ℕ
-output sheet ws start out space = unlessRefused (reply sheet ws start (length out) space) out (writtenOf (panel (lifts sheet) ws start) out)
+unfoldable pub outputNext : List ℕ → List ℕ → ℕ → List ℕ → ℕ → List ℕ
+outputNext sheet ws start out space = unlessRefused (replyNext sheet ws start (length out) space) out (writtenOf (panel (lifts sheet) ws start) out)
 
 -- the next sheet of a panel, written to a lent one
 abbrev pub carriedTo : Panel → List Lift → List ℕ → List ℕ
@@ -31,6 +31,6 @@ carriedTo (chosen cs n) ls next = onto (nextSheet cs ls) next
 carriedTo (short r) ls next = next
 
 -- the lent sheet after the call
-unfoldable pub nextOutput : List ℕ → List ℕ → (start room : ℕ) → List ℕ → List ℕ
-nextOutput sheet ws start room next =
-    unlessRefused (reply sheet ws start room (length next)) next (carriedTo (panel (lifts sheet) ws start) (lifts sheet) next)
+unfoldable pub lentSheet : List ℕ → List ℕ → (start room : ℕ) → List ℕ → List ℕ
+lentSheet sheet ws start room next =
+    unlessRefused (replyNext sheet ws start room (length next)) next (carriedTo (panel (lifts sheet) ws start) (lifts sheet) next)

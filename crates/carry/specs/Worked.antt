@@ -8,7 +8,7 @@ use Rattle.sheet.specs.Sheet.{sheetOf}
 use Rattle.sheet.specs.Reply.{Reply, numbers}
 use Rattle.sheet.specs.Worked.{lift}
 use Rattle.selection.specs.Worked.{sameReply}
-use Rattle.carry.specs.Reply.{reply, output, nextOutput}
+use Rattle.carry.specs.Reply.{replyNext, outputNext, lentSheet}
 
 -- a sheet, random words, a start, an output and a lent sheet, with the reply and both after the call
 pub record Case : Type 0 where
@@ -29,9 +29,9 @@ refused sheet ws start out next n place =
 -- whether the definitions give the reply, the output and the lent sheet
 abbrev right : Case → Bool
 right c =
-    sameReply (reply (c .sheet) (c .words) (c .start) (length (c .out)) (length (c .next))) (c .reply)
-    && (same (output (c .sheet) (c .words) (c .start) (c .out) (length (c .next))) (c .written)
-    && same (nextOutput (c .sheet) (c .words) (c .start) (length (c .out)) (c .next)) (c .carried))
+    sameReply (replyNext (c .sheet) (c .words) (c .start) (length (c .out)) (length (c .next))) (c .reply)
+    && (same (outputNext (c .sheet) (c .words) (c .start) (c .out) (length (c .next))) (c .written)
+    && same (lentSheet (c .sheet) (c .words) (c .start) (length (c .out)) (c .next)) (c .carried))
 
 abbrev pub allRight : List Case → Bool
 allRight [] = true

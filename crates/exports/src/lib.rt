@@ -8,7 +8,7 @@ ghost use Rattle.sheet.specs.Refusal.{verdict};
 ghost use Rattle.sheet.specs.Reply.{numbers};
 ghost use Rattle.counts.specs.Counts.{reply as countsReply, output as countsOutput};
 ghost use Rattle.selection.specs.Choice.{reply, output};
-ghost use Rattle.carry.specs.Reply.{reply as replyNext, output as outputNext, nextOutput};
+ghost use Rattle.carry.specs.Reply.{replyNext, outputNext, lentSheet};
 ghost use Rattle.exports.specs.Reply.{Replied, donorsOf, heldOf, Chose, Answered};
 use draw::Drawn;
 use round::Donors;
@@ -160,7 +160,7 @@ pub extern "C" fn jengpilo_panel_choose_next(
 ) -> u32
     ensures replied { λ r. ⌜ numbers r (now (second .exit)) (now (third .exit)) ≡ replyNext (now (sheet .entry)) (now (words .entry)) start (length (now (out .entry))) (length (now (next .entry))) ⌝ }
     ensures written { λ _. ⌜ now (out .exit) ≡ outputNext (now (sheet .entry)) (now (words .entry)) start (now (out .entry)) (length (now (next .entry))) ⌝ }
-    ensures carried { λ _. ⌜ now (next .exit) ≡ nextOutput (now (sheet .entry)) (now (words .entry)) start (length (now (out .entry))) (now (next .entry)) ⌝ }
+    ensures carried { λ _. ⌜ now (next .exit) ≡ lentSheet (now (sheet .entry)) (now (words .entry)) start (length (now (out .entry))) (now (next .entry)) ⌝ }
 {
     let answer = panel::choose_next(sheet, words, start, out, next);
     *second = answer.second();

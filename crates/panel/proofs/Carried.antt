@@ -1,8 +1,8 @@
 -- The choices kept by round are next quarter's held marks: a lift of round r is chosen exactly if its number is the one kept for r.
-use Prim.Native.Nat.{ℕ, suc, _+_, _≤_, _<_}
+use Prim.Native.Nat.{ℕ, suc, _+_, _<_}
 use mathlib.Core.Path.{_≡_, refl, sym, ap, _∙_}
-use mathlib.Core.Bool.{Bool, true, false, cond, _||_, or-false}
-use mathlib.Core.List.{List, [], _∷_, List·Memᴰ, List·Memᴰ·head, List·Memᴰ·tail, List·Memᴰ·not-nil, List·Memᴰ·cases-cons}
+use mathlib.Core.Bool.{Bool, true, false, _||_, or-false}
+use mathlib.Core.List.{List, _∷_, List·Memᴰ, List·Memᴰ·head, List·Memᴰ·tail, List·Memᴰ·not-nil, List·Memᴰ·cases-cons}
 use mathlib.Core.Logic.{_⊎_, inl, inr}
 use native.Mathlib.Omega.{arith}
 use lib.Dec.{eqb, ltb}
@@ -23,7 +23,7 @@ use Rattle.selection.proofs.Chosen.{Measured, run-measured}
 use Rattle.carry.specs.Next.{carriedOn, isChosen, nextLifts, inTable}
 use Rattle.carry.proofs.Rounds.{carriedOn-ext}
 use Rattle.carry.proofs.Marks.{Used, all-used}
-use Rattle.panel.proofs.Tabled.{Rises, byRound-below, byRound-first}
+use Rattle.panel.proofs.Tabled.{Rises, byRound-first}
 
 -- a lift's new round is named
 named-some : {l : Lift} {ls : List Lift} → List·Memᴰ l ls → 0 < named New (l .new .round) ls
@@ -47,12 +47,12 @@ module _ {ls : List Lift} (f : Fit ls) {l : Lift} (i : List·Memᴰ l ls) where
       (unchosen rest (λ t m. u t (List·Memᴰ·tail m)) (suc r) (d .2) (omega (arith, d .0)))
 
   -- the table has its round's choice
-  kept : {ws : List ℕ} {from next : ℕ} {rs : List ℕ} {cs : List Choice} → Steps ls ws from rs cs next → All (Used ls) rs → (k : ℕ) → Rises k cs
+  table-has : {ws : List ℕ} {from next : ℕ} {rs : List ℕ} {cs : List Choice} → Steps ls ws from rs cs next → All (Used ls) rs → (k : ℕ) → Rises k cs
       → List·Memᴰ (l .new .round) rs → (xs : List ℕ) → length xs ≡ mostRounds + 1 → inTable (byRound (λ c. c .number) cs xs) l ≡ isChosen cs l
   unfolding isChosen byRound
-  kept none u k d m xs e = absurd (List·Memᴰ·not-nil m)
-  kept {ws} {from} (some {r = r} {rs = rs} {cs = cs} {vs = vs} {s = s} q rest) u k d m xs e =
-      go (eqb r (l .new .round)) refl (List·Memᴰ·cases-cons m) (λ n. kept rest v (suc r) (d .2) n (set xs r (c .number)) (length-set xs r (c .number) ∙ e))
+  table-has none u k d m xs e = absurd (List·Memᴰ·not-nil m)
+  table-has {ws} {from} (some {r = r} {rs = rs} {cs = cs} {vs = vs} {s = s} q rest) u k d m xs e =
+      go (eqb r (l .new .round)) refl (List·Memᴰ·cases-cons m) (λ n. table-has rest v (suc r) (d .2) n (set xs r (c .number)) (length-set xs r (c .number) ∙ e))
     where
       c : Choice
       c = made r ls vs s
@@ -82,4 +82,4 @@ table-next {ls} f k d =
     (λ l i h.
     let p = proper 0 ls (f .listable .listed) l i in
     let m = those-has (λ r. ltb 0 (named New r ls)) 1 mostRounds (l .new .round) (lt-ltb 0 (named New (l .new .round) ls) (named-some i)) h (omega (arith, p .new .round)) in
-    kept f i k (all-used ls) 1 d m (replicate (mostRounds + 1) 0) refl)
+    table-has f i k (all-used ls) 1 d m (replicate (mostRounds + 1) 0) refl)

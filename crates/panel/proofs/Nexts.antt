@@ -16,7 +16,7 @@ use Rattle.sheet.proofs.Verdicts.{decided}
 use Rattle.selection.specs.Choice.{Choice, Panel, chosen, short, panel, ofPanel, writtenOf}
 use Rattle.selection.proofs.Steps.{steps}
 use Rattle.carry.specs.Next.{remaining, nextLifts, wordsNeeded, onto}
-use Rattle.carry.specs.Reply.{ofLent, reply, output, carriedTo, nextOutput}
+use Rattle.carry.specs.Reply.{ofLentNext, replyNext, outputNext, carriedTo, lentSheet}
 use Rattle.carry.proofs.Carrying.{carries}
 use Rattle.panel.specs.Slices.{Gathers, Picked, toldBy, writtenBy, sheetBy, carriedBy}
 use Rattle.panel.specs.declared.Picks.{Picks}
@@ -55,14 +55,14 @@ left-next start (short r) ls next = refl
 
 -- where the words and the output suffice, and m lifts remain
 module _ (ls : List Lift) (ws : List ℕ) (start : ℕ) (out next : List ℕ) (n m : ℕ) (a : (start ≤ length ws) × (2 * n ≤ length out)) (e : m ≡ length (remaining ls)) where
-  pub cramped : length next < 3 * m + n + 1 → ofRefusal (numbered 17 (3 * m + n + 1)) ≡ ofLent ls n ws start (length out) (length next)
+  pub cramped : length next < 3 * m + n + 1 → ofRefusal (numbered 17 (3 * m + n + 1)) ≡ ofLentNext ls n ws start (length out) (length next)
   cramped h = rw (← enough n (length ws) start (length out) (a .0) _ (a .1), ← e, lt-ltb (length next) (3 * m + n + 1) h)
 
   pub through-next : 3 * m + n + 1 ≤ length next → (p : Picks) → Picked (panel ls ws start) p → Fit ls → {y : Reply} {out′ next′ : List ℕ}
       → y ≡ toldBy p start → out′ ≡ writtenBy p out → next′ ≡ carriedBy p ls next
-      → (y ≡ ofLent ls n ws start (length out) (length next))
-      × ((out′ ≡ unlessRefused (ofLent ls n ws start (length out) (length next)) out (writtenOf (panel ls ws start) out))
-      × (next′ ≡ unlessRefused (ofLent ls n ws start (length out) (length next)) next (carriedTo (panel ls ws start) ls next)))
+      → (y ≡ ofLentNext ls n ws start (length out) (length next))
+      × ((out′ ≡ unlessRefused (ofLentNext ls n ws start (length out) (length next)) out (writtenOf (panel ls ws start) out))
+      × (next′ ≡ unlessRefused (ofLentNext ls n ws start (length out) (length next)) next (carriedTo (panel ls ws start) ls next)))
   through-next h p d f g k q =
       let x = panel ls ws start in
       rw (← enough n (length ws) start (length out) (a .0) _ (a .1), ← e, le-ltb (length next) (3 * m + n + 1) h)
@@ -72,15 +72,15 @@ module _ (ls : List Lift) (ws : List ℕ) (start : ℕ) (out next : List ℕ) (n
 
 module _ (sheet ws : List ℕ) (start : ℕ) (out next : List ℕ) where
   pub at-sheet : {x : Numbered} → refused x ≡ verdict sheet
-      → (ofRefusal x ≡ reply sheet ws start (length out) (length next))
-      × ((out ≡ output sheet ws start out (length next)) × (next ≡ nextOutput sheet ws start (length out) next))
-  unfolding reply output nextOutput
+      → (ofRefusal x ≡ replyNext sheet ws start (length out) (length next))
+      × ((out ≡ outputNext sheet ws start out (length next)) × (next ≡ lentSheet sheet ws start (length out) next))
+  unfolding replyNext outputNext lentSheet
   at-sheet {x} e = rw (← e) (both-left out _ next _ (λ z. omega (arith, z, decided sheet .above x (sym e))) refl)
 
-  pub at-fitting : {k m : ℕ} {y : Reply} {out′ next′ : List ℕ} → fits k m ≡ verdict sheet → y ≡ ofLent (lifts sheet) m ws start (length out) (length next)
-      → out′ ≡ unlessRefused (ofLent (lifts sheet) m ws start (length out) (length next)) out (writtenOf (panel (lifts sheet) ws start) out)
-      → next′ ≡ unlessRefused (ofLent (lifts sheet) m ws start (length out) (length next)) next (carriedTo (panel (lifts sheet) ws start) (lifts sheet) next)
-      → (y ≡ reply sheet ws start (length out) (length next))
-      × ((out′ ≡ output sheet ws start out (length next)) × (next′ ≡ nextOutput sheet ws start (length out) next))
-  unfolding reply output nextOutput
+  pub at-fitting : {k m : ℕ} {y : Reply} {out′ next′ : List ℕ} → fits k m ≡ verdict sheet → y ≡ ofLentNext (lifts sheet) m ws start (length out) (length next)
+      → out′ ≡ unlessRefused (ofLentNext (lifts sheet) m ws start (length out) (length next)) out (writtenOf (panel (lifts sheet) ws start) out)
+      → next′ ≡ unlessRefused (ofLentNext (lifts sheet) m ws start (length out) (length next)) next (carriedTo (panel (lifts sheet) ws start) (lifts sheet) next)
+      → (y ≡ replyNext sheet ws start (length out) (length next))
+      × ((out′ ≡ outputNext sheet ws start out (length next)) × (next′ ≡ lentSheet sheet ws start (length out) next))
+  unfolding replyNext outputNext lentSheet
   at-fitting e f g h = rw (← e) (f, (g, h))

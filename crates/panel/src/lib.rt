@@ -15,7 +15,7 @@ ghost use Rattle.sheet.specs.Law.{Fitting};
 ghost use Rattle.selection.specs.Choice.{panel as panelOf, unlessLacking, ofLent, pair, writtenOf, reply, output};
 ghost use Rattle.selection.specs.Fair.{Fair};
 ghost use Rattle.carry.specs.Next.{remaining};
-ghost use Rattle.carry.specs.Reply.{ofLent as ofLentNext, reply as replyNext, output as outputNext, carriedTo, nextOutput};
+ghost use Rattle.carry.specs.Reply.{ofLentNext, replyNext, outputNext, carriedTo, lentSheet};
 ghost use Rattle.carry.specs.Law.{CarriesAll};
 ghost use Rattle.panel.specs.Slices.{bitAt, sendersOf, numberOf as numberFor, withTable, heldPlace, initialOf, heldBy, roundOf, Even, Within, lent, Ready, Room, Small, picked, after, stepped, steppedFrom, noPicks, Writable, withPairs, Picked, told, toldBy, writtenBy, sheetBy, carriedBy};
 use round::Donors;
@@ -648,7 +648,7 @@ pub fn choose_next(
 ) -> Answer
     ensures replied { λ r. ⌜ told r ≡ replyNext (now (sheet .entry)) (now (words .entry)) start (length (now (out .entry))) (length (now (next .entry))) ⌝ }
     ensures written { λ _. ⌜ now (out .exit) ≡ outputNext (now (sheet .entry)) (now (words .entry)) start (now (out .entry)) (length (now (next .entry))) ⌝ }
-    ensures carried { λ _. ⌜ now (next .exit) ≡ nextOutput (now (sheet .entry)) (now (words .entry)) start (length (now (out .entry))) (now (next .entry)) ⌝ }
+    ensures carried { λ _. ⌜ now (next .exit) ≡ lentSheet (now (sheet .entry)) (now (words .entry)) start (length (now (out .entry))) (now (next .entry)) ⌝ }
     ensures carries { λ _. ⌜ (Fitting (now (sheet .entry)) → CarriesAll (liftsOfSheet (now (sheet .entry)))) ⌝ }
     ensures fair { λ _. ⌜ (Fitting (now (sheet .entry)) → Fair (liftsOfSheet (now (sheet .entry)))) ⌝ }
 {

@@ -1,6 +1,6 @@
 -- What a round of lifts that fit chooses: a lift of that round whose new measure is above 0, since its held lifts have weight.
-use Prim.Native.Nat.{ℕ, zero, suc, _+_, _*_, _≤_, _<_}
-use mathlib.Core.Path.{_≡_, refl, sym, ap, _∙_}
+use Prim.Native.Nat.{ℕ, zero, suc, _*_, _≤_, _<_}
+use mathlib.Core.Path.{_≡_, refl}
 use mathlib.Core.Bool.{Bool, true, false, cond, _&&_, and-eq-true-iff, false≢true}
 use mathlib.Core.List.{List, [], _∷_, map, List·Memᴰ, List·Memᴰ·head, List·Memᴰ·tail}
 use native.Mathlib.Nat.{mul-pos}
@@ -8,13 +8,12 @@ use native.Mathlib.Omega.{arith}
 use lib.Dec.{eqb}
 use lib.ListN.{getD}
 use borrow.Author.Tests.{eqb-true, eq-eqb}
-use Rattle.laws.specs.Plan.{Every}
-use Rattle.laws.proofs.Lists.{All, all-getD}
+use Rattle.laws.proofs.Lists.{all-getD}
 use Rattle.draw.specs.Draw.{largest}
 use Rattle.draw.specs.Run.{finished, run}
 use Rattle.draw.proofs.Runs.{run-every}
-use Rattle.round.specs.Round.{liftAt as roundLiftAt, S, Donate, Weight, oldWeight, newWeight, weights, weightAt}
-use Rattle.round.specs.Choice.{Selection, plan}
+use Rattle.round.specs.Round.{liftAt as roundLiftAt, S, Donate, Weight, oldWeight, weights, weightAt}
+use Rattle.round.specs.Choice.{Selection}
 use Rattle.round.specs.Law.{Weighty}
 use Rattle.round.specs.Slices.{lift}
 use Rattle.round.specs.Share.{Initial, here, elsewhere, heldOf}

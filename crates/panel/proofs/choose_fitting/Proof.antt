@@ -1,5 +1,4 @@
 -- `panel::choose_fitting` meets its contract: what lacks is told, and where nothing does, the choices are the panel's. Assumes nothing.
-use native.Mathlib.Omega.{arith}
 use mathlib.Core.Path.{_≡_, sym, _∙_}
 use Prim.Native.Nat.{_*_, _≤_}
 use lib.ListN.{length}

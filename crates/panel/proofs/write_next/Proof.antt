@@ -1,5 +1,4 @@
 -- `panel::write_next` meets its contract: by whether the words ended. Assumes nothing.
-use mathlib.Core.Path.{refl}
 use borrow.Author.Needs.{needs}
 use borrow.Author.Tests.{eq-eqb, ne-eqb}
 use Rattle.panel.proofs.write_next.Statement.{statement}
