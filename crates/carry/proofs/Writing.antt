@@ -13,13 +13,14 @@ use Rattle.laws.specs.Sum.{totalBy, indicator}
 use Rattle.sheet.specs.Sheet.{mostLifts, mostRounds, notCounted, liftKind, oldKind, newKind, heldKind, endKind, placeOf, Lift, liftOf, lifts, word, placeWord, wordsOf, written, sheetOf}
 use Rattle.sheet.specs.Reading.{Legible}
 use Rattle.sheet.specs.Rounds.{placeAt}
+use Rattle.sheet.specs.Reply.{onto}
 use Rattle.sheet.specs.Tables.{fieldOf, tallyOf}
 use Rattle.sheet.specs.declared.Side.the-variants.{New}
 use Rattle.sheet.specs.declared.Field.the-variants.{Round, Unit}
 use Rattle.sheet.proofs.Tables.{getD-tabulate}
 use Rattle.sheet.proofs.Trips.{read-theorem}
 use Rattle.sheet.proofs.Walks.{Between, between-none, behind, turn, last}
-use Rattle.carry.specs.Next.{remaining, uncounted, carried, carriedOn, inTable, onto}
+use Rattle.carry.specs.Next.{remaining, uncounted, carried, carriedOn, inTable}
 use Rattle.carry.specs.Writing.{wordsOn}
 use Rattle.carry.proofs.Rounds.{remaining-counts, remaining-few}
 

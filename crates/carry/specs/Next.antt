@@ -1,9 +1,9 @@
 -- Next quarter's sheet: "Write the choices as a sheet" (Card 3 of document 02).
 use Prim.Native.Nat.{ℕ, _+_, _*_}
 use mathlib.Core.Bool.{Bool, false, cond, _||_}
-use mathlib.Core.List.{List, [], _∷_, _++_, map}
+use mathlib.Core.List.{List, [], _∷_, map}
 use lib.Dec.{eqb}
-use lib.ListN.{length, getD, drop}
+use lib.ListN.{length, getD}
 use Rattle.sheet.specs.Sheet.{notCounted, Place, Lift, sheetOf}
 use Rattle.sheet.specs.Rounds.{placeAt}
 use Rattle.sheet.specs.declared.Side.the-variants.{New}
@@ -42,10 +42,6 @@ nextSheet cs ls = sheetOf (nextLifts cs ls)
 -- "the words needed": three for each lift that remains, a held word for each new round in use, and the end word
 abbrev pub wordsNeeded : List Lift → ℕ → ℕ
 wordsNeeded ls rounds = 3 * length (remaining ls) + rounds + 1
-
--- words written at the beginning of others, which keep what they had behind
-abbrev pub onto : List ℕ → List ℕ → List ℕ
-onto ws room = ws ++ drop (length ws) room
 
 -- ---- as the code finds it
 

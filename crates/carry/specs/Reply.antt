@@ -7,9 +7,9 @@ use lib.ListN.{length}
 use Rattle.sheet.specs.Sheet.{Lift, lifts}
 use Rattle.sheet.specs.Reading.{numbered}
 use Rattle.sheet.specs.Refusal.{verdict}
-use Rattle.sheet.specs.Reply.{Reply, ofRefusal, unlessRefused}
+use Rattle.sheet.specs.Reply.{Reply, ofRefusal, onto, unlessRefused}
 use Rattle.selection.specs.Choice.{Panel, chosen, short, panel, ofPanel, unlessLacking, ofVerdict, writtenOf}
-use Rattle.carry.specs.Next.{nextSheet, wordsNeeded, onto}
+use Rattle.carry.specs.Next.{nextSheet, wordsNeeded}
 
 -- "17 when the lent sheet has too few words; place the words needed, after 12 and before 13."
 abbrev pub ofLentNext : List Lift → ℕ → List ℕ → (start room space : ℕ) → Reply

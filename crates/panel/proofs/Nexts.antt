@@ -9,13 +9,13 @@ use Rattle.sheet.specs.Sheet.{Lift, lifts, sheetOf}
 use Rattle.sheet.specs.Reading.{Numbered, numbered}
 use Rattle.sheet.specs.Rounds.{inUse}
 use Rattle.sheet.specs.Refusal.{refused, fits, verdict}
-use Rattle.sheet.specs.Reply.{Reply, ofRefusal, unlessRefused}
+use Rattle.sheet.specs.Reply.{Reply, ofRefusal, onto, unlessRefused}
 use Rattle.sheet.specs.Law.{Fit}
 use Rattle.sheet.specs.declared.Side.the-variants.{New}
 use Rattle.sheet.proofs.Verdicts.{decided}
 use Rattle.selection.specs.Choice.{Choice, Panel, chosen, short, panel, ofPanel, writtenOf}
 use Rattle.selection.proofs.Steps.{steps}
-use Rattle.carry.specs.Next.{remaining, nextLifts, wordsNeeded, onto}
+use Rattle.carry.specs.Next.{remaining, nextLifts, wordsNeeded}
 use Rattle.carry.specs.Reply.{ofLentNext, replyNext, outputNext, carriedTo, lentSheet}
 use Rattle.carry.proofs.Carrying.{carries}
 use Rattle.panel.specs.Slices.{Gathers, Picked, toldBy, writtenBy, sheetBy, carriedBy}

@@ -19,11 +19,11 @@ use Rattle.sheet.specs.Sheet.{mostRounds, Lift, sheetOf}
 use Rattle.sheet.specs.Reading.{numbered}
 use Rattle.sheet.specs.Rounds.{those}
 use Rattle.sheet.specs.Refusal.{refusal}
-use Rattle.sheet.specs.Reply.{Reply, ofRefusal, replied}
+use Rattle.sheet.specs.Reply.{Reply, ofRefusal, replied, onto}
 use Rattle.sheet.specs.declared.Found.{Found}
 use Rattle.sheet.specs.declared.Found.the-variants.{At, Nothing}
 use Rattle.selection.specs.Choice.{further, Choice, Panel, chosen, short, byRound, pair}
-use Rattle.carry.specs.Next.{carriedOn, onto, inTable}
+use Rattle.carry.specs.Next.{carriedOn, inTable}
 use Rattle.panel.specs.declared.Senders.{Senders}
 use Rattle.panel.specs.declared.Senders.the-variants.{None, One, Two}
 use Rattle.panel.specs.declared.Picks.{Picks}
@@ -208,7 +208,7 @@ pairs ns os = pairsFrom ns os 1 mostRounds
 
 -- the output with the pairs, and behind them what it had
 abbrev pub withPairs : List ℕ → List ℕ → List ℕ → List ℕ
-withPairs ns os out = pairs ns os ++ drop (length (pairs ns os)) out
+withPairs ns os out = onto (pairs ns os) out
 
 -- the pairs have room in an output of so many words, and the numbers and outcomes in a pair
 pub record Writable (ns os : List ℕ) (room : ℕ) : Type 0 where

@@ -141,7 +141,7 @@ module _ (ws : List Weight) (N : ℕ) (p : 0 < N) (e : total (map (λ w. w .old)
   drawable i l =
       every-stayOr (λ _. Unit {0}) (weightAt ws i) (done (selection i false)) _ (λ _. tt) (λ _. tt) (λ m. (dropped-G ws i (e ∙ sym f) l m, λ _ _. tt))
 
-  -- a unit of old weight above 0 makes way for none of new weight 0
+  -- from a unit of old weight above 0 the update leads to one of new weight above 0
   pub arrival : (i : ℕ) → 0 < weightAt ws i .old → i < length ws → Every (λ s. 0 < weightAt ws (s .place) .new) (keyfitz ws i)
   unfolding Every keyfitz replacement G
   arrival i o l =

@@ -1,5 +1,5 @@
--- Lifts that a sheet can tell: each is proper, one is held in each old round in use where none is unheld, and so many words has their
--- sheet.
+-- Lifts that a sheet can tell: each is proper, and where no old round is unheld, each that is in use has one held lift; this gives the
+-- length of their sheet.
 use Prim.Native.Nat.{ℕ, zero, suc, _+_, _*_, _≤_, _<_}
 use mathlib.Core.Path.{_≡_, refl, sym, ap, ap₂, _∙_}
 use mathlib.Core.Bool.{Bool, true, false, cond, _&&_, not, true≢false}

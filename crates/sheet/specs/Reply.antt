@@ -1,8 +1,9 @@
 -- What a call replies, and what a refusal leaves of the lent words.
 use Prim.Native.Nat.{ℕ}
 use mathlib.Core.Bool.{cond}
-use mathlib.Core.List.{List}
+use mathlib.Core.List.{List, _++_}
 use lib.Dec.{eqb}
+use lib.ListN.{length, drop}
 use Rattle.sheet.specs.Reading.{Numbered}
 
 -- a call's reply: its number, a place or a count, and how many random words it read
@@ -21,6 +22,10 @@ replied n k = numbers 0 n k
 -- "A refusal replies number, place and 0 words read"
 abbrev pub ofRefusal : Numbered → Reply
 ofRefusal x = numbers (x .number) (x .place) 0
+
+-- words written to the beginning of a lent list: those behind "keep what they had"
+abbrev pub onto : List ℕ → List ℕ → List ℕ
+onto ws lent = ws ++ drop (length ws) lent
 
 -- a refusal "changes nothing lent"
 abbrev pub unlessRefused : Reply → List ℕ → List ℕ → List ℕ
