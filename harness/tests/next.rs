@@ -1,4 +1,5 @@
-//! Compares the archive's choice that writes next quarter's sheet with the reference: cases by hand, seeded sheets, and twelve quarters in a row.
+//! Compares the archive's choice that writes next quarter's sheet with the reference: cases by hand, seeded sheets, and twelve quarters
+//! in a row.
 
 use harness::lent::{any_count, any_len, any_start, Marked, Script};
 use harness::reference::{donors, new_sum, old_sum, read_lifts, read_sheet, write_sheet};
@@ -179,7 +180,8 @@ const NO_LIFT: Case = Case {
     next: &[&[0xF000_0000]],
 };
 
-/// Old rounds 1 and 2 of sums 4 and 6 both send to both new rounds. In 1, v 12, r 18 and q 5 are M8; in 2, f 2 falls to lift 23, which has 3 of 9.
+/// Old rounds 1 and 2 of sums 4 and 6 both send to both new rounds. In 1, v 12, r 18 and q 5 are M8; in 2, f 2 falls to lift 23, which
+/// has 3 of 9.
 const TWO_DONORS: Case = Case {
     name: "two donors",
     sheet: &[
@@ -559,7 +561,8 @@ impl Seen {
     }
 }
 
-/// Checks that a list was empty, one word short and shorter by more where it was refused, and just long enough and longer where a later number was given, 500 times or more.
+/// Checks that a list was empty, one word short and shorter by more where it was refused, and just long enough and longer where a later
+/// number was given, 500 times or more.
 fn check_sides(sides: &Sides, refusal: usize, later: &[usize]) {
     let short = [Side::Empty, Side::OneShort, Side::Shorter];
     let short = short.map(|side| (refusal, side));
@@ -685,7 +688,8 @@ fn choices_of(pairs: &[u32]) -> Vec<Choice> {
     choices.collect()
 }
 
-/// Checks that the sheet written for a sheet that fits does so too, and is read as its lifts but for withdrawn ones: each in its new round with the measure that counted, not counted, and held if it was chosen.
+/// Checks that the sheet written for a sheet that fits does so too, and is read as its lifts but for withdrawn ones: each in its new
+/// round with the measure that counted, not counted, and held if it was chosen.
 fn check_read_back(sheet: &[u32], answer: &Answer) {
     let choices = choices_of(&answer.pairs).into_iter();
     let chosen: BTreeSet<_> = choices.map(|(round, lift, _)| (round, lift)).collect();

@@ -1,4 +1,5 @@
-//! Compares the archive's choice for a whole sheet, by both calls that make it, with the reference: the document's cases, its traps and seeded sheets. The archive's shares are exact.
+//! Compares the archive's choice for a whole sheet, by both calls that make it, with the reference: the document's cases, its traps and
+//! seeded sheets. The archive's shares are exact.
 
 use harness::lent::{any_count, any_len, any_start, Marked, Script};
 use harness::reference::{choose_by, donors, new_rounds, new_sum, old_sum};

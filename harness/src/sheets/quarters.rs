@@ -5,7 +5,8 @@ use crate::reference::{SheetLift, MOST_LIFTS};
 use crate::seeded::Seeded;
 use std::collections::BTreeSet;
 
-/// Two rounds exchange lifts, some lifts are withdrawn and up to two newcomers are added, which have measure 0 until they are counted. Each lift was in the same round before.
+/// Two rounds exchange lifts, some lifts are withdrawn and up to two newcomers are added, which have measure 0 until they are counted.
+/// Each lift was in the same round before.
 pub fn rearrange(seeded: &mut Seeded, lifts: &mut Vec<SheetLift>) {
     let mut rounds: Vec<u32> = rounds_in_use(lifts).into_iter().collect();
     rounds.push(any_round(seeded));
