@@ -8,6 +8,7 @@ use native.Mathlib.Omega.{arith}
 use lib.Dec.{eqb}
 use lib.ListN.{length, getD, length-map}
 use borrow.Author.Tests.{eqb-true, eq-eqb, lt-ltb, le-ltb}
+use Rattle.laws.specs.Among.{among}
 use Rattle.laws.specs.Plan.{done}
 use Rattle.laws.proofs.Lists.{All, all-map}
 use Rattle.draw.specs.Run.{run}
@@ -94,7 +95,7 @@ module _ (ls : List Lift) (cs : List Choice) (fit : Fit (nextLifts cs ls)) {r : 
 module _ (ls : List Lift) (f : Fit ls) (cs : List Choice) (fit : Fit (nextLifts cs ls)) where
   keep-rounds : {ws : List ℕ} {from next : ℕ} {rs : List ℕ} {ds : List Choice} → All (Used ls) rs → ((l : Lift) → isChosen ds l ≡ true → isChosen cs l ≡ true)
       → Steps ls ws from rs ds next → (vs : List ℕ) (start : ℕ) → panelFrom (nextLifts cs ls) vs start rs ≡ chosen (map again ds) start
-  unfolding panelFrom run isChosen
+  unfolding panelFrom run among
   keep-rounds u sub none vs start = refl
   keep-rounds {ws} {from} u sub (some {r = r} {s = s} q k) vs start =
       let used = u r (List·Memᴰ·head refl) in

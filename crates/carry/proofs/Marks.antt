@@ -1,12 +1,13 @@
 -- The choices as held marks: they are an initial selection of the lifts carried on, which so marked fit.
 use Prim.Native.Nat.{ℕ, _≤_, _<_}
 use mathlib.Core.Path.{_≡_, refl, ap, ap₂, subst}
-use mathlib.Core.Bool.{Bool, true, false, cond, _||_, false≢true}
+use mathlib.Core.Bool.{Bool, true, false, cond, false≢true}
 use mathlib.Core.List.{List, [], _∷_, map, List·Memᴰ, List·Memᴰ·head, List·Memᴰ·tail}
 use native.Mathlib.Omega.{arith}
 use lib.Dec.{eqb, ltb}
 use lib.ListN.{length-map}
 use borrow.Author.Tests.{ne-eqb, ltb-true}
+use Rattle.laws.specs.Among.{among}
 use Rattle.laws.proofs.Lists.{All}
 use Rattle.sheet.specs.Sheet.{mostRounds, Lift}
 use Rattle.sheet.specs.Rounds.{named, inUse}
@@ -14,7 +15,7 @@ use Rattle.sheet.specs.Law.{Fit}
 use Rattle.sheet.specs.declared.Side.the-variants.{Old, New}
 use Rattle.sheet.proofs.Those.{those-in}
 use Rattle.selection.specs.Choice.{Choice, liftAt}
-use Rattle.selection.specs.Initial.{names, marked}
+use Rattle.selection.specs.Initial.{marked}
 use Rattle.selection.proofs.Naming.{Selected, none as selected-none, some as selected-some}
 use Rattle.selection.proofs.MarkedFits.{Unmarked, fit-marked}
 use Rattle.selection.proofs.Steps.{Steps, none, some}
@@ -65,15 +66,14 @@ all-used ls r m =
     let h = those-in (λ t. ltb 0 (named New t ls)) 1 mostRounds r m in
     record { low = h .1; high = omega (arith, h .2); some = ltb-true 0 (named New r ls) (h .0) }
 
--- the lifts chosen, as a selection: it names the choices
+-- the lifts chosen, as a selection: it has the numbers of the choices
 record Marks (ls : List Lift) (rs : List ℕ) (cs : List Choice) : Type 0 where
   lifts : List Lift
   selected : Selected (carriedOn noneHeld ls) rs lifts
-  same : (l : Lift) → names lifts (l .number) ≡ isChosen cs l
+  same : map (λ l. l .number) lifts ≡ map (λ c. c .number) cs
 
 marks : {ls : List Lift} → Fit ls → {ws : List ℕ} {from next : ℕ} {rs : List ℕ} {cs : List Choice} → All (Used ls) rs → Steps ls ws from rs cs next → Marks ls rs cs
-unfolding names isChosen
-marks f u none = record { lifts = []; selected = selected-none; same = λ l. refl }
+marks f u none = record { lifts = []; selected = selected-none; same = refl }
 marks {ls} f {ws} {from} u (some {r = r} {s = s} q k) =
     let used = u r (List·Memᴰ·head refl) in
     let a = run-measured f (used .low) (used .high) (used .some) ws from q in
@@ -82,15 +82,15 @@ marks {ls} f {ws} {from} u (some {r = r} {s = s} q k) =
     record {
       lifts = carried noneHeld x ∷ m .lifts;
       selected = selected-some (carried-in noneHeld (a .inside) (omega (arith, a .round, used .low))) (a .round) (a .some) (m .selected);
-      same = λ l. ap (λ b. eqb (x .number) (l .number) || b) (m .same l);
+      same = ap (λ ns. x .number ∷ ns) (m .same);
     }
 
 -- marking them is marking the choices
-marked-next : (m : List Lift) (cs : List Choice) → ((l : Lift) → names m (l .number) ≡ isChosen cs l) → (us : List Lift)
+marked-next : (m : List Lift) (cs : List Choice) → map (λ l. l .number) m ≡ map (λ c. c .number) cs → (us : List Lift)
     → marked m (map (carried noneHeld) us) ≡ map (carried (isChosen cs)) us
 unfolding marked
 marked-next m cs e [] = refl
-marked-next m cs e (u ∷ us) = ap₂ (λ h ls. carried (λ _. h) u ∷ ls) (e u) (marked-next m cs e us)
+marked-next m cs e (u ∷ us) = ap₂ (λ h ls. carried (λ _. h) u ∷ ls) (ap (among (u .number)) e) (marked-next m cs e us)
 
 -- next quarter's lifts fit
 pub fit-next : {ls : List Lift} → Fit ls → {ws : List ℕ} {from next : ℕ} {cs : List Choice} → Steps ls ws from (inUse New ls) cs next → Fit (nextLifts cs ls)

@@ -1,6 +1,7 @@
 -- The cases, computed.
 use mathlib.Core.Path.{_≡_, refl}
 use mathlib.Core.Bool.{true}
+use Rattle.laws.specs.Among.{among}
 use Rattle.laws.specs.Sum.{total, totalBy}
 use Rattle.laws.specs.Interval.{pick}
 use Rattle.laws.specs.Plan.{after}
@@ -13,14 +14,14 @@ use Rattle.sheet.specs.Reading.{fault, readFrom}
 use Rattle.sheet.specs.Rounds.{those, sends, ofRound}
 use Rattle.sheet.specs.Refusal.{firstRound, ofRounds, verdict}
 use Rattle.selection.specs.Choice.{donorsOf, liftsOf, heldAt, heldIn, planOf, liftAt, panelFrom, written}
-use Rattle.carry.specs.Next.{remaining, isChosen}
+use Rattle.carry.specs.Next.{remaining}
 use Rattle.carry.specs.Reply.{replyNext, outputNext, lentSheet}
 use Rattle.carry.specs.Worked.{cases, cornerCases, allRight}
 
 pub all-right : allRight cases ≡ true
-unfolding total totalBy pick after drawFrom run S U D oldWeight newWeight weights G fresh firstOdds preliminary stayOr replacement keyfitz select plan outcome lifts writtenLifts fault readFrom those sends ofRound firstRound ofRounds verdict donorsOf liftsOf heldAt heldIn planOf liftAt panelFrom written remaining isChosen replyNext outputNext lentSheet
+unfolding total totalBy pick after drawFrom run S U D oldWeight newWeight weights G fresh firstOdds preliminary stayOr replacement keyfitz select plan outcome lifts writtenLifts fault readFrom those sends ofRound firstRound ofRounds verdict donorsOf liftsOf heldAt heldIn planOf liftAt panelFrom written remaining among replyNext outputNext lentSheet
 all-right = refl
 
 pub corners-right : allRight cornerCases ≡ true
-unfolding total totalBy pick after drawFrom run S U D oldWeight newWeight weights G fresh firstOdds preliminary stayOr replacement keyfitz select plan outcome lifts writtenLifts fault readFrom those sends ofRound firstRound ofRounds verdict donorsOf liftsOf heldAt heldIn planOf liftAt panelFrom written remaining isChosen replyNext outputNext lentSheet
+unfolding total totalBy pick after drawFrom run S U D oldWeight newWeight weights G fresh firstOdds preliminary stayOr replacement keyfitz select plan outcome lifts writtenLifts fault readFrom those sends ofRound firstRound ofRounds verdict donorsOf liftsOf heldAt heldIn planOf liftAt panelFrom written remaining among replyNext outputNext lentSheet
 corners-right = refl

@@ -1,9 +1,10 @@
 -- Next quarter's sheet: "Write the choices as a sheet" (Card 3 of document 02).
 use Prim.Native.Nat.{ℕ, _+_, _*_}
-use mathlib.Core.Bool.{Bool, false, cond, _||_}
+use mathlib.Core.Bool.{Bool, cond}
 use mathlib.Core.List.{List, [], _∷_, map}
 use lib.Dec.{eqb}
 use lib.ListN.{length, getD}
+use Rattle.laws.specs.Among.{among}
 use Rattle.sheet.specs.Sheet.{notCounted, Place, Lift, sheetOf}
 use Rattle.sheet.specs.Rounds.{placeAt}
 use Rattle.sheet.specs.declared.Side.the-variants.{New}
@@ -27,9 +28,8 @@ abbrev pub carriedOn : (Lift → Bool) → List Lift → List Lift
 carriedOn held ls = map (carried held) (remaining ls)
 
 -- whether a lift is one of some choices
-unfoldable pub isChosen : List Choice → Lift → Bool
-isChosen [] l = false
-isChosen (c ∷ cs) l = eqb (c .number) (l .number) || isChosen cs l
+abbrev pub isChosen : List Choice → Lift → Bool
+isChosen cs l = among (l .number) (map (λ c. c .number) cs)
 
 -- next quarter's lifts: "held marks on the choices"
 abbrev pub nextLifts : List Choice → List Lift → List Lift

@@ -16,7 +16,8 @@ use Rattle.sheet.specs.declared.Side.the-variants.{New}
 use Rattle.sheet.proofs.Trips.{placed-writable, read-theorem, back-theorem}
 use Rattle.sheet.proofs.Verdicts.{legible-words, decided, read-through}
 use Rattle.counts.specs.Text.{lines, Entry, counted, malformed, entry}
-use Rattle.counts.specs.Counts.{among, atLine, linesFrom, numbersOf, ofLines, hundreds, remeasured, measuredBy, measured, renewed, answer}
+use Rattle.laws.specs.Among.{among}
+use Rattle.counts.specs.Counts.{atLine, linesFrom, numbersOf, ofLines, hundreds, remeasured, measuredBy, measured, renewed, answer}
 use Rattle.counts.specs.Law.{TakenLine, Takes}
 use Rattle.counts.proofs.Slots.{count-small}
 

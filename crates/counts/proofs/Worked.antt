@@ -7,7 +7,8 @@ use Rattle.sheet.specs.Reading.{fault, readFrom}
 use Rattle.sheet.specs.Rounds.{those, sends}
 use Rattle.sheet.specs.Refusal.{firstRound, ofRounds, verdict}
 use Rattle.counts.specs.Text.{lines, before, behind, allDigits, valueFrom, entry}
-use Rattle.counts.specs.Counts.{among, linesFrom, measured, answer}
+use Rattle.laws.specs.Among.{among}
+use Rattle.counts.specs.Counts.{linesFrom, measured, answer}
 use Rattle.counts.specs.Worked.{allRight, lineCases, formCases, resultCases}
 
 pub right-lines : allRight lineCases ≡ true

@@ -1,9 +1,10 @@
 -- Counts taken into a sheet (Card 1 of document 02): the refusals in their order, the reply, and the sheet at the end.
 use Prim.Native.Nat.{ℕ, _+_, _/_}
-use mathlib.Core.Bool.{Bool, false, cond, not, _&&_, _||_}
+use mathlib.Core.Bool.{cond, not, _&&_}
 use mathlib.Core.List.{List, [], _∷_, map}
 use lib.Dec.{eqb}
 use lib.ListN.{length}
+use Rattle.laws.specs.Among.{among}
 use Rattle.sheet.specs.Sheet.{Lift, lifts, sheetOf}
 use Rattle.sheet.specs.Reading.{numbered, Reading, faulty, sound, ofWords}
 use Rattle.sheet.specs.Refusal.{Verdict, refused, fits, unlessFaulty, verdict, refusal}
@@ -13,11 +14,6 @@ use Rattle.counts.specs.declared.Answer.{Answer}
 use Rattle.counts.specs.declared.Answer.the-variants.{Sheet, Form, Lift as AboutLift, Taken}
 
 -- ---- the lines one by one
-
--- whether a number is among some numbers
-unfoldable pub among : ℕ → List ℕ → Bool
-among n [] = false
-among n (m ∷ ms) = eqb m n || among n ms
 
 -- line i, from what it says, the numbers of the sheet's lifts, those that had a line, and what follows if it is taken:
 -- "14 when a line has another form, 15 when its lift is absent from the sheet or had a line already"

@@ -10,7 +10,8 @@ use Rattle.sheet.specs.Refusal.{fits}
 use Rattle.sheet.specs.Law.{Fitting}
 use Rattle.sheet.specs.declared.Side.the-variants.{New}
 use Rattle.counts.specs.Text.{lines, counted, entry}
-use Rattle.counts.specs.Counts.{among, numbersOf, hundreds, remeasured, measured, renewed, answer}
+use Rattle.laws.specs.Among.{among}
+use Rattle.counts.specs.Counts.{numbersOf, hundreds, remeasured, measured, renewed, answer}
 
 -- a line that is taken, among all lines, into lifts of these numbers: it names one of them, whose new measure is its count and that of no
 -- other line

@@ -10,7 +10,8 @@ use Rattle.sheet.specs.Reading.{numbered, faulty, sound}
 use Rattle.sheet.specs.declared.Found.{Found}
 use Rattle.sheet.specs.declared.Found.the-variants.{At, Nothing}
 use Rattle.counts.specs.Text.{LF, endingCR, isDigit, value, empty, isNumber, Entry, counted, malformed, entry}
-use Rattle.counts.specs.Counts.{among, linesFrom, hundreds, remeasured}
+use Rattle.laws.specs.Among.{among}
+use Rattle.counts.specs.Counts.{linesFrom, hundreds, remeasured}
 use Rattle.counts.specs.declared.Digits.{Digits}
 use Rattle.counts.specs.declared.Number.{Number}
 use Rattle.counts.specs.declared.Number.the-variants.{Is, Not}

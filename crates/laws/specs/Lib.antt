@@ -3,3 +3,4 @@ pub mod Interval
 pub mod Fraction
 pub mod Plan
 pub mod Same
+pub mod Among

@@ -18,7 +18,7 @@ use Rattle.sheet.proofs.Verdicts.{decided}
 use Rattle.sheet.specs.declared.Side.the-variants.{New}
 use Rattle.selection.specs.Choice.{Choice, Panel, chosen, short, panel, ofPanel, unlessLacking, ofLent, reply, written, writtenOf, output}
 use Rattle.selection.proofs.Steps.{Steps, steps, steps-count}
-use Rattle.panel.specs.Slices.{Gathers, Picked, pairs, Writable, toldBy, writtenBy}
+use Rattle.panel.specs.Slices.{Gathers, Picked, pairs, PairsFit, toldBy, writtenBy}
 use Rattle.panel.specs.declared.Picks.{Picks}
 use Rattle.panel.proofs.Tabled.{Rises, steps-rise, tabled-each, pairs-tabled, length-written, written-behind}
 
@@ -31,7 +31,7 @@ record Done (ls : List Lift) (ws : List ℕ) (start : ℕ) (p : Picks) : Type 0 
   pub gathers : Gathers choices next p
   pub steps : Steps ls ws start (inUse New ls) choices next
 
--- what `finish` asks and ensures, of choices that are a panel's
+-- what `write_choices` asks and ensures, of choices that are a panel's
 module _ (ls : List Lift) (ws : List ℕ) (start : ℕ) (p : Picks) (d : Picked (panel ls ws start) p) where
   done : p .short ≡ 0 → Done ls ws start p
   done z = go (panel ls ws start) refl d
@@ -61,7 +61,7 @@ module _ (ls : List Lift) (ws : List ℕ) (start : ℕ) (p : Picks) (d : Picked 
     pairs-are {cs} g k = rw (g .numbers, g .outcomes) (pairs-tabled cs (rise k))
 
     -- the pairs have room where each round has two words
-    pub writable : (room : ℕ) → 2 * length (inUse New ls) ≤ room → p .short ≡ 0 → Writable (p .numbers) (p .outcomes) room
+    pub writable : (room : ℕ) → 2 * length (inUse New ls) ≤ room → p .short ≡ 0 → PairsFit (p .numbers) (p .outcomes) room
     writable room h z =
         let x = done z in
         let r = rise (x .steps) in

@@ -8,6 +8,7 @@ use native.Mathlib.Omega.{arith}
 use lib.Dec.{eqb, ltb}
 use lib.ListN.{length, getD, set, replicate, length-set}
 use borrow.Author.Tests.{eqb-true, eqb-false, eq-eqb, ne-eqb, lt-ltb}
+use Rattle.laws.specs.Among.{among}
 use Rattle.laws.specs.Sum.{totalBy}
 use Rattle.laws.proofs.Lists.{All}
 use Rattle.sheet.specs.Sheet.{mostRounds, Lift}
@@ -39,7 +40,7 @@ module _ {ls : List Lift} (f : Fit ls) {l : Lift} (i : List·Memᴰ l ls) where
   -- no later round chooses it
   unchosen : {ws : List ℕ} {from next : ℕ} {rs : List ℕ} {cs : List Choice} → Steps ls ws from rs cs next → All (Used ls) rs → (k : ℕ) → Rises k cs
       → l .new .round < k → isChosen cs l ≡ false
-  unfolding isChosen
+  unfolding among
   unchosen none u k d h = refl
   unchosen {ws} {from} (some {r = r} q rest) u k d h =
       let used = u r (List·Memᴰ·head refl) in
@@ -49,7 +50,7 @@ module _ {ls : List Lift} (f : Fit ls) {l : Lift} (i : List·Memᴰ l ls) where
   -- the table has its round's choice
   table-has : {ws : List ℕ} {from next : ℕ} {rs : List ℕ} {cs : List Choice} → Steps ls ws from rs cs next → All (Used ls) rs → (k : ℕ) → Rises k cs
       → List·Memᴰ (l .new .round) rs → (xs : List ℕ) → length xs ≡ mostRounds + 1 → inTable (byRound (λ c. c .number) cs xs) l ≡ isChosen cs l
-  unfolding isChosen byRound
+  unfolding among byRound
   table-has none u k d m xs e = absurd (List·Memᴰ·not-nil m)
   table-has {ws} {from} (some {r = r} {rs = rs} {cs = cs} {vs = vs} {s = s} q rest) u k d m xs e =
       go (eqb r (l .new .round)) refl (List·Memᴰ·cases-cons m) (λ n. table-has rest v (suc r) (d .2) n (set xs r (c .number)) (length-set xs r (c .number) ∙ e))

@@ -211,7 +211,7 @@ abbrev pub withPairs : List ℕ → List ℕ → List ℕ → List ℕ
 withPairs ns os out = onto (pairs ns os) out
 
 -- the pairs have room in an output of so many words, and the numbers and outcomes in a pair
-pub record Writable (ns os : List ℕ) (room : ℕ) : Type 0 where
+pub record PairsFit (ns os : List ℕ) (room : ℕ) : Type 0 where
   pub few : length (pairs ns os) ≤ room
   pub numbers : Small ns
   pub outcomes : (r : ℕ) → getD os r 0 ≤ 3

@@ -17,7 +17,7 @@ ghost use Rattle.selection.specs.Fair.{Fair};
 ghost use Rattle.carry.specs.Next.{remaining};
 ghost use Rattle.carry.specs.Reply.{ofLentNext, replyNext, outputNext, carriedTo, lentSheet};
 ghost use Rattle.carry.specs.Law.{CarriesAll};
-ghost use Rattle.panel.specs.Slices.{bitAt, sendersOf, numberOf as numberFor, withTable, heldPlace, initialOf, heldBy, roundOf, Even, Within, lent, Ready, Room, Small, picked, after, stepped, steppedFrom, noPicks, Writable, withPairs, Picked, told, toldBy, writtenBy, sheetBy, carriedBy};
+ghost use Rattle.panel.specs.Slices.{bitAt, sendersOf, numberOf as numberFor, withTable, heldPlace, initialOf, heldBy, roundOf, Even, Within, lent, Ready, Room, Small, picked, after, stepped, steppedFrom, noPicks, PairsFit, withPairs, Picked, told, toldBy, writtenBy, sheetBy, carriedBy};
 use round::Donors;
 use round::Held;
 use round::Selected;
@@ -503,7 +503,7 @@ fn write_pair(part: &mut [u32], round: usize, number: u32, outcome: u32)
 
 // Writes the choices of all rounds that have one, each to its own part of the output.
 fn write_pairs(numbers: &[u32; Sheet::TABLE], outcomes: &[u32; Sheet::TABLE], out: &mut [u32])
-    requires { ⌜ Writable (now numbers) (now outcomes) (length (now out)) ⌝ }
+    requires { ⌜ PairsFit (now numbers) (now outcomes) (length (now out)) ⌝ }
     ensures { λ _. ⌜ now (out .exit) ≡ withPairs (now (numbers .entry)) (now (outcomes .entry)) (now (out .entry)) ⌝ }
 {
     let mut start = 0;
@@ -522,8 +522,8 @@ fn write_pairs(numbers: &[u32; Sheet::TABLE], outcomes: &[u32; Sheet::TABLE], ou
 
 // Writes the choices and says how many there are and how many words were read; or the round in which the words ended, with nothing
 // written.
-fn finish(p: Picks, start: usize, out: &mut [u32]) -> Answer
-    requires { ⌜ (p .short ≡ 0 → Writable (p .numbers) (p .outcomes) (length (now out))) ⌝ }
+fn write_choices(p: Picks, start: usize, out: &mut [u32]) -> Answer
+    requires { ⌜ (p .short ≡ 0 → PairsFit (p .numbers) (p .outcomes) (length (now out))) ⌝ }
     requires { ⌜ (p .short ≡ 0 → start ≤ p .next) ⌝ }
     ensures { λ r. ⌜ told r ≡ toldBy p start ⌝ }
     ensures { λ _. ⌜ now (out .exit) ≡ writtenBy p (now (out .entry)) ⌝ }
@@ -572,7 +572,7 @@ fn choose_fitting(
         return lack;
     }
     let picks = select_all(sheet, lifts, words, start);
-    finish(picks, start, out)
+    write_choices(picks, start, out)
 }
 
 // The whole choice: refused, with nothing written and no word used up, or one lift for each new round, written as pairs.
@@ -634,7 +634,7 @@ fn choose_next_fitting(
     }
     let picks = select_all(sheet, fitting.lifts, words, start);
     write_next(sheet, picks, lifts, next);
-    finish(picks, start, out)
+    write_choices(picks, start, out)
 }
 
 // The whole choice and next quarter's sheet: refused, with nothing written and no word used up; or one lift for each new round, written

@@ -7,6 +7,7 @@ use mathlib.Core.Logic.{_⊎_, inl, inr}
 use native.Mathlib.Omega.{arith}
 use lib.Dec.{eqb, ltb}
 use borrow.Author.Tests.{eqb-true, eq-eqb, ne-eqb, ltb-true}
+use Rattle.laws.specs.Among.{among}
 use Rattle.laws.specs.Sum.{totalBy, indicator}
 use Rattle.laws.proofs.Lists.{All, all-none, all-more, all-keep, all-append, all-map}
 use Rattle.laws.proofs.Sums.{totalBy-none, totalBy-sum, totalBy-le}
@@ -99,7 +100,7 @@ count ls t m = totalBy oldRound (λ l. indicator (names m (l .number))) t ls
 module _ (ls : List Lift) (d : Listed 0 ls) where
   -- a lift that is named has old measure above 0
   pub measured : {ts : List ℕ} {m : List Lift} → Selected ls ts m → All (λ l. names m (l .number) ≡ true → 0 < l .old .measure) ls
-  unfolding names
+  unfolding among
   measured none l i e = absurd (false≢true e)
   measured (some {a = a} {m = m} h q p s) l i e = go (eqb (a .number) (l .number)) refl e (measured s l i)
     where
@@ -110,7 +111,7 @@ module _ (ls : List Lift) (d : Listed 0 ls) where
   module _ (t : ℕ) where
     -- at most as many are named as there are rounds t
     pub most : {ts : List ℕ} {m : List Lift} → Selected ls ts m → count ls t m ≤ totalBy (λ s. s) (λ _. 1) t ts
-    unfolding names totalBy
+    unfolding among totalBy
     most none = omega (arith, totalBy-none oldRound t (λ _. 0) ls (λ l i e. refl))
     most (some {a = a} {m = m} h q p s) =
         rw (← q)
@@ -124,7 +125,7 @@ module _ (ls : List Lift) (d : Listed 0 ls) where
 
     -- and one, if there is one
     pub least : {ts : List ℕ} {m : List Lift} → Selected ls ts m → List·Memᴰ t ts → 1 ≤ count ls t m
-    unfolding names
+    unfolding among
     least none i = absurd (List·Memᴰ·not-nil i)
     least (some {t = s} {ts = ts} {a = a} {m = m} h q p r) i = go (List·Memᴰ·cases-cons i) (least r)
       where

@@ -8,6 +8,7 @@ use native.Mathlib.Omega.{arith}
 use lib.Dec.{eqb}
 use lib.ListN.{length}
 use borrow.Author.Tests.{eqb-true, eq-eqb, ne-eqb}
+use Rattle.laws.specs.Among.{among}
 use Rattle.laws.specs.Sum.{over, totalBy}
 use Rattle.laws.specs.Fraction.{Fraction, _//_, _⊕_, _⊗_, _≈_, sum}
 use Rattle.laws.proofs.Fractions.{pos-left, ≈-refl, ≈-trans, ⊕-assoc, ⊕-≈}
@@ -44,7 +45,7 @@ numbered-once n (l ∷ ls) d (suc i) (suc j) b c e = numbered-once (l .number) l
 
 -- a lift of another number can be left out of a selection
 names-drop : (k m : List Lift) (l : Lift) (n : ℕ) → (l .number ≡ n → ⊥) → names (k ++ l ∷ m) n ≡ names (k ++ m) n
-unfolding names
+unfolding among
 names-drop [] m l n h = rw (ne-eqb (l .number) n h)
 names-drop (x ∷ k) m l n h = ap (λ y. eqb (x .number) n || y) (names-drop k m l n h)
 
@@ -70,16 +71,16 @@ stands t l us = heldAt t (marked (l ∷ []) us)
 
 -- if no lift is named, none stands here; a lift stands where its number is
 stands-nowhere : (t : ℕ) (us : List Lift) → heldAt t (marked [] us) ≡ elsewhere
-unfolding heldAt marked names
+unfolding heldAt marked among
 stands-nowhere t [] = refl
 stands-nowhere t (u ∷ us) = ap further (stands-nowhere t us)
 
 stands-first : (t : ℕ) (l : Lift) (us : List Lift) → l .old .round ≡ t → stands t l (l ∷ us) ≡ here 0
-unfolding heldAt marked names
+unfolding heldAt marked among
 stands-first t l us e = rw (eq-eqb (l .number) (l .number) refl, eq-eqb (l .old .round) t e)
 
 stands-later : (t : ℕ) (l u : Lift) (us : List Lift) → (l .number ≡ u .number → ⊥) → stands t l (u ∷ us) ≡ further (stands t l us)
-unfolding heldAt marked names
+unfolding heldAt marked among
 stands-later t l u us h = rw (ne-eqb (l .number) (u .number) h)
 
 -- ---- the lifts of a donor, sorted by where they stand

@@ -1,6 +1,7 @@
 -- The document's cases, and the exact shares and keeping of small sheets, computed.
 use mathlib.Core.Path.{_≡_, refl}
 use mathlib.Core.Bool.{true}
+use Rattle.laws.specs.Among.{among}
 use Rattle.laws.specs.Sum.{over, total, totalBy}
 use Rattle.laws.specs.Interval.{pick}
 use Rattle.laws.specs.Plan.{after, paths, weight}
@@ -13,7 +14,7 @@ use Rattle.sheet.specs.Reading.{fault, readFrom}
 use Rattle.sheet.specs.Rounds.{those, sends, ofRound}
 use Rattle.sheet.specs.Refusal.{firstRound, ofRounds, verdict}
 use Rattle.selection.specs.Choice.{donorsOf, liftsOf, heldAt, heldIn, planOf, liftAt, panelFrom, reply, written, output}
-use Rattle.selection.specs.Initial.{eligible, each, selectionsFrom, names, marked, product, odds, sumOver, overSelections}
+use Rattle.selection.specs.Initial.{eligible, each, selectionsFrom, marked, product, odds, sumOver, overSelections}
 use Rattle.selection.specs.Fair.{share, kept}
 use Rattle.selection.specs.Worked.{cases, silentCases, allRight, rightShares, rightKeeping}
 
@@ -26,9 +27,9 @@ unfolding total totalBy pick after drawFrom run S U D oldWeight newWeight weight
 silent-right = refl
 
 pub exact-shares : rightShares ≡ true
-unfolding over total totalBy pick after paths weight S U D oldWeight newWeight weights G fresh firstOdds preliminary stayOr replacement keyfitz select plan those sends ofRound donorsOf liftsOf heldAt heldIn planOf liftAt eligible each selectionsFrom names marked product odds sumOver overSelections share
+unfolding over total totalBy pick after paths weight S U D oldWeight newWeight weights G fresh firstOdds preliminary stayOr replacement keyfitz select plan those sends ofRound donorsOf liftsOf heldAt heldIn planOf liftAt eligible each selectionsFrom among marked product odds sumOver overSelections share
 exact-shares = refl
 
 pub exact-keeping : rightKeeping ≡ true
-unfolding over total totalBy pick after paths weight S U D oldWeight newWeight weights G fresh firstOdds preliminary stayOr replacement keyfitz select plan those sends ofRound donorsOf liftsOf heldAt heldIn planOf liftAt eligible each selectionsFrom names marked product odds sumOver overSelections kept
+unfolding over total totalBy pick after paths weight S U D oldWeight newWeight weights G fresh firstOdds preliminary stayOr replacement keyfitz select plan those sends ofRound donorsOf liftsOf heldAt heldIn planOf liftAt eligible each selectionsFrom among marked product odds sumOver overSelections kept
 exact-keeping = refl

@@ -1,9 +1,10 @@
 -- Initial selections (the document's markings): "A marking names one lift of old measure above 0 in each old round as held; all else
 -- in the sheet stays."
 use Prim.Native.Nat.{ℕ, _*_}
-use mathlib.Core.Bool.{Bool, false, cond, _&&_, _||_}
+use mathlib.Core.Bool.{Bool, cond, _&&_}
 use mathlib.Core.List.{List, [], _∷_, _++_, map}
 use lib.Dec.{eqb, ltb}
+use Rattle.laws.specs.Among.{among}
 use Rattle.laws.specs.Fraction.{Fraction, _//_, _⊕_, _⊗_}
 use Rattle.sheet.specs.Sheet.{Lift}
 use Rattle.sheet.specs.Rounds.{inUse, sumOf}
@@ -29,9 +30,8 @@ abbrev pub selections : List Lift → List (List Lift)
 selections ls = selectionsFrom (inUse Old ls) ls
 
 -- whether a selection names the lift of a number
-unfoldable pub names : List Lift → ℕ → Bool
-names [] n = false
-names (l ∷ m) n = eqb (l .number) n || names m n
+abbrev pub names : List Lift → ℕ → Bool
+names m n = among n (map (λ l. l .number) m)
 
 -- the lift held where the selection names it, all else as it was
 abbrev pub holding : List Lift → Lift → Lift

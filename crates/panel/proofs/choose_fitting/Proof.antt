@@ -34,8 +34,8 @@ returns c =
 select-all-requires : tie.Need-select-all-requires
 select-all-requires c κs = let s = c .before .before .before .before .before .before in (s .pre .0, s .pre .1 .0)
 
-finish-requires : tie.Need-finish-requires
-finish-requires c κs =
+write-choices-requires : tie.Need-write-choices-requires
+write-choices-requires c κs =
     let s = c .before .before .before .before .before .before .before .before in
     let select = c .before .select-all in (
       writable (lifts (s .args .sheet .now)) (s .args .words .now) (s .args .start) (select .result) (select .ensures) (fit (s .pre .0)) (length (s .args .out .now)) (rw (← s .pre .1 .1) (nothing (c .before .before) .1)),
@@ -49,7 +49,7 @@ returns-2 : tie.Need-returns-2
 returns-2 c =
     let s = c .before .before .before .before .before .before .before .before .before .before .before in
     let select = c .before .before .before .before .select-all in
-    let e = c .before .before .finish .ensures in
+    let e = c .before .before .write-choices .ensures in
     through (lifts (s .args .sheet .now)) (s .args .words .now) (s .args .start) (s .args .out .now) (s .args .rounds) (nothing (c .before .before .before .before .before)) (select .result) (select .ensures) (fit (s .pre .0)) (e .0) (e .1)
 
 pub choose-fitting-spec : {M : Type 1} → statement M
@@ -60,6 +60,6 @@ choose-fitting-spec =
     number-requires
     returns
     select-all-requires
-    finish-requires
+    write-choices-requires
     same-length
     returns-2)

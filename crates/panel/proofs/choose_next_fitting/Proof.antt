@@ -67,8 +67,8 @@ write-next-requires c κs =
     let h : wordsNeeded (lifts (s .args .sheet .now)) (length (inUse New (lifts (s .args .sheet .now)))) ≤ length (s .args .next .now) = rw (← remaining .remaining .ensures, ← s .pre .1 .1) (c .before .before .if2 .left) in
     (s .pre .0 .legible, (remaining .remaining .ensures, room (fit (s .pre .0)) (s .args .words .now) (s .args .start) (x .result) (x .ensures) h))
 
-finish-requires : tie.Need-finish-requires
-finish-requires c κs =
+write-choices-requires : tie.Need-write-choices-requires
+write-choices-requires c κs =
     let select = c .before .before .before .before .before in
     let s = select .before .before .before .before .before .before .before .before .before .before in (
       writable (lifts (s .args .sheet .now)) (s .args .words .now) (s .args .start) (select .select-all .result) (select .select-all .ensures) (fit (s .pre .0)) (length (s .args .out .now)) (rw (← s .pre .1 .1) (nothing (select .before .before .before) .1)),
@@ -85,7 +85,7 @@ returns-3 : tie.Need-returns-3
 returns-3 c =
     let select = c .before .before .before .before .before .before .before .before in
     let s = select .before .before .before .before .before .before .before .before .before .before in
-    let e = c .before .before .finish .ensures in
+    let e = c .before .before .write-choices .ensures in
     through-next (lifts (s .args .sheet .now)) (s .args .words .now) (s .args .start) (s .args .out .now) (s .args .next .now) (s .args .fitting .rounds)
     (select .before .before .remaining .result) (nothing (select .before .before .before)) (select .before .before .remaining .ensures) (select .before .if2 .left) (select .select-all .result) (select .select-all .ensures) (fit (s .pre .0)) (e .0) (e .1) (c .before .before .before .before .before .before .write-next .ensures)
 
@@ -103,7 +103,7 @@ choose-next-fitting-spec =
     returns-2
     select-all-requires
     write-next-requires
-    finish-requires
+    write-choices-requires
     same-length
     same-length-2
     returns-3)

@@ -1,9 +1,9 @@
--- `panel::finish` meets its contract: by whether the words ended. Assumes nothing.
+-- `panel::write_choices` meets its contract: by whether the words ended. Assumes nothing.
 use mathlib.Core.Path.{refl}
 use borrow.Author.Needs.{needs}
 use borrow.Author.Tests.{eq-eqb, ne-eqb}
-use Rattle.panel.proofs.finish.Statement.{statement}
-use Rattle.panel.proofs.finish.Tie as tie
+use Rattle.panel.proofs.write_choices.Statement.{statement}
+use Rattle.panel.proofs.write_choices.Tie as tie
 
 returns : tie.Need-returns
 returns c = rw (ne-eqb (c .before .before .args .p .short) 0 (c .if1 .taken)) (refl, refl)
@@ -27,5 +27,5 @@ returns-2 c =
     let if = write .before .before .before .before .before .before in
     rw (eq-eqb (if .before .before .args .p .short) 0 (if .if1 .left)) (refl, write .write-pairs .ensures)
 
-pub finish-spec : {M : Type 1} → statement M
-finish-spec = tie.close (tie.spec returns write-pairs-requires sub-t13 same-length returns-2)
+pub write-choices-spec : {M : Type 1} → statement M
+write-choices-spec = tie.close (tie.spec returns write-pairs-requires sub-t13 same-length returns-2)
