@@ -1,8 +1,9 @@
-//! What is lent for a choice: sheets with words that just suffice, lengths on either side of what is needed, and lists between marks.
+//! What is lent for a choice: sheets with words that just suffice, lengths on either side of what is needed, and lists between marks; and
+//! its reply.
 
-use crate::reference::{read_sheet, write_sheet, SheetLift};
+use crate::reference::{read_sheet, write_sheet, Reply, SheetLift};
 use crate::seeded::Seeded;
-use crate::sheets::add_sheet_words;
+use crate::sheets::{add_sheet_words, longest};
 
 /// How many words on either side of a list are not lent.
 const MARGIN: usize = 4;
@@ -33,6 +34,14 @@ impl Script {
             start,
             round_of_word,
         }
+    }
+
+    /// For the longest sheet, whose held lifts shrink, so that each of its 100 rounds draws.
+    pub fn longest(seeded: &mut Seeded) -> Script {
+        let mut lifts = longest();
+        let held = lifts.iter_mut().filter(|lift| lift.held);
+        held.for_each(|lift| lift.new_measure = 1);
+        Script::new(seeded, lifts)
     }
 }
 
@@ -96,5 +105,23 @@ impl Marked {
         expected.words[written.clone()].copy_from_slice(&self.words[written.clone()]);
         assert_eq!(*self, expected);
         self.words[written].to_vec()
+    }
+}
+
+/// So many choices with so many words read.
+pub fn chosen(choices: usize, words: usize) -> Reply {
+    Reply::Chosen { choices, words }
+}
+
+/// Refused by this number at this place.
+pub fn refused(number: u32, place: usize) -> Reply {
+    Reply::Refused { number, place }
+}
+
+/// The document's number, 0 for choices.
+pub fn number_of(reply: Reply) -> usize {
+    match reply {
+        Reply::Refused { number, .. } => number as usize,
+        Reply::Chosen { .. } => 0,
     }
 }

@@ -1,7 +1,7 @@
 //! Compares the archive's choice that writes next quarter's sheet with the reference: cases by hand, seeded sheets, and twelve quarters
 //! in a row.
 
-use harness::lent::{any_count, any_len, any_start, Marked, Script};
+use harness::lent::{any_count, any_len, any_start, chosen, number_of, refused, Marked, Script};
 use harness::reference::{donors, new_sum, old_sum, read_lifts, read_sheet, write_sheet};
 use harness::reference::{Intake, Reply, SheetLift, Verdict};
 use harness::seeded::Seeded;
@@ -70,24 +70,6 @@ fn agreed(lent: Lent) -> Answer {
         reply,
         pairs: out.written(pairs),
         next: next.written(words),
-    }
-}
-
-/// So many choices with so many words read.
-fn chosen(choices: usize, words: usize) -> Reply {
-    Reply::Chosen { choices, words }
-}
-
-/// Refused by this number at this place.
-fn refused(number: u32, place: usize) -> Reply {
-    Reply::Refused { number, place }
-}
-
-/// The document's number, 0 for choices.
-fn number_of(reply: Reply) -> usize {
-    match reply {
-        Reply::Refused { number, .. } => number as usize,
-        Reply::Chosen { .. } => 0,
     }
 }
 
@@ -372,10 +354,7 @@ fn refusals_come_in_order() {
 #[test]
 fn longest_sheet_is_written() {
     let mut seeded = Seeded::new(30);
-    let mut lifts = longest();
-    let held = lifts.iter_mut().filter(|lift| lift.held);
-    held.for_each(|lift| lift.new_measure = 1);
-    let script = Script::new(&mut seeded, lifts);
+    let script = Script::longest(&mut seeded);
     let lent = Lent {
         sheet: &script.sheet,
         words: &script.words,

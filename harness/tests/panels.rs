@@ -1,7 +1,7 @@
 //! Compares the archive's choice for a whole sheet, by both calls that make it, with the reference: the document's cases, its traps and
 //! seeded sheets. The archive's shares are exact.
 
-use harness::lent::{any_count, any_len, any_start, Marked, Script};
+use harness::lent::{any_count, any_len, any_start, chosen, number_of, refused, Marked, Script};
 use harness::reference::{choose_by, donors, new_rounds, new_sum, old_sum};
 use harness::reference::{read_sheet, write_sheet, Reply, Round, Sheet, SheetLift};
 use harness::seeded::Seeded;
@@ -54,16 +54,6 @@ fn agreed_output(lent: Lent) -> (Reply, Vec<u32>) {
 /// A reply on which archive and reference agree, their outputs too.
 fn agreed(lent: Lent) -> Reply {
     agreed_output(lent).0
-}
-
-/// So many choices with so many words read.
-fn chosen(choices: usize, words: usize) -> Reply {
-    Reply::Chosen { choices, words }
-}
-
-/// Refused by this number at this place.
-fn refused(number: u32, place: usize) -> Reply {
-    Reply::Refused { number, place }
 }
 
 /// A round, its chosen lift and the outcome.
@@ -475,10 +465,7 @@ fn every_shorter_list_is_refused() {
 #[test]
 fn longest_sheet_is_refused_short_in_every_round() {
     let mut seeded = Seeded::new(14);
-    let mut lifts = longest();
-    let held = lifts.iter_mut().filter(|lift| lift.held);
-    held.for_each(|lift| lift.new_measure = 1);
-    let script = Script::new(&mut seeded, lifts);
+    let script = Script::longest(&mut seeded);
     assert_eq!((script.sheet.len(), script.rounds), (12_389, 100));
     let counts = script.start..script.words.len();
     let short_rounds: BTreeSet<u32> = counts.map(|count| check_short(&script, count)).collect();
@@ -511,14 +498,6 @@ fn full_sheets_agree() {
             check_short(&script, counts.start + seeded.index(counts.len()));
             check_short(&script, counts.end - 1);
         }
-    }
-}
-
-/// The document's number, 0 for choices.
-fn number_of(reply: Reply) -> usize {
-    match reply {
-        Reply::Refused { number, .. } => number as usize,
-        Reply::Chosen { .. } => 0,
     }
 }
 
