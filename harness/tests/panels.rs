@@ -1,5 +1,5 @@
 //! Compares the archive's choice for a whole sheet, by both calls that make it, with the reference: the document's cases, its traps and
-//! seeded sheets. The archive's shares are exact.
+//! seeded sheets. The archive's shares are exact. The plain version agrees with the reference.
 
 use harness::lent::{any_count, any_len, any_start, chosen, number_of, refused, Marked, Script};
 use harness::reference::{choose_by, donors, new_rounds, new_sum, old_sum};
@@ -8,7 +8,7 @@ use harness::seeded::Seeded;
 use harness::sheets::{add_round_words, any_lifts, damaged_sheet, fitting_lifts};
 use harness::sheets::{filled_in, held, lift, longest, numbered, Place, EXAMPLE, NONE};
 use harness::ways::{step, Drawn, Weights};
-use harness::{archive, reference};
+use harness::{archive, plain, reference};
 use std::collections::BTreeSet;
 
 /// What is lent for a choice: the output's length stands for the output.
@@ -501,32 +501,77 @@ fn full_sheets_agree() {
     }
 }
 
+/// Calls `seen` with what is lent for a choice from these lifts' sheet: at times the sheet is damaged, words lack, the start is bad or the
+/// output short.
+fn lend(seeded: &mut Seeded, lifts: Vec<SheetLift>, seen: impl FnOnce(Lent) -> Reply) -> Reply {
+    let script = Script::new(seeded, lifts);
+    let damaged = match seeded.below(2) {
+        0 => damaged_sheet(seeded, script.lifts.clone(), 3),
+        _ => script.sheet.clone(),
+    };
+    let count = any_count(seeded, script.words.len());
+    seen(Lent {
+        sheet: &damaged,
+        words: &script.words[..count],
+        start: any_start(seeded, script.start, count),
+        out_len: any_len(seeded, 2 * script.rounds),
+    })
+}
+
+/// Checks that choices and each number but 16 were given so often, 16 ten times as often, and 14 and 15 never: there is no text.
+fn check_reached(counts: &[usize; 17], least: usize) {
+    let [given @ .., 0, 0, newcomers] = counts else {
+        panic!("{counts:?}");
+    };
+    assert!(given.iter().all(|&sheets| sheets >= least), "{counts:?}");
+    assert!(*newcomers >= 10 * least, "{counts:?}");
+}
+
 #[test]
 fn seeded_sheets_agree() {
     let mut seeded = Seeded::new(12);
     let mut counts = [0; 17];
     for _ in 0..120_000 {
         let lifts = any_lifts(&mut seeded);
-        let script = Script::new(&mut seeded, lifts);
-        let damaged = match seeded.below(2) {
-            0 => damaged_sheet(&mut seeded, script.lifts.clone(), 3),
-            _ => script.sheet.clone(),
-        };
-        let count = any_count(&mut seeded, script.words.len());
-        let lent = Lent {
-            sheet: &damaged,
-            words: &script.words[..count],
-            start: any_start(&mut seeded, script.start, count),
-            out_len: any_len(&mut seeded, 2 * script.rounds),
-        };
-        counts[number_of(agreed(lent))] += 1;
+        let reply = lend(&mut seeded, lifts, agreed);
+        counts[number_of(reply)] += 1;
     }
-    // There is no text, so 14 and 15 are never given.
-    let [given @ .., 0, 0, newcomers] = counts else {
-        panic!("{counts:?}");
-    };
-    assert!(given.iter().all(|&sheets| sheets >= 100), "{counts:?}");
-    assert!(newcomers >= 1_000, "{counts:?}");
+    check_reached(&counts, 100);
+}
+
+/// A reply on which the plain version and the reference agree, their outputs too.
+fn agreed_by_plain(lent: Lent) -> Reply {
+    let expected = run(reference::choose_panel, lent);
+    let plain = run(plain::choose_panel, lent);
+    assert_eq!(plain, expected, "{lent:08X?}");
+    expected.0
+}
+
+#[test]
+fn plain_version_agrees() {
+    let mut seeded = Seeded::new(27);
+    let mut counts = [0; 17];
+    for _ in 0..60_000 {
+        let lifts = any_lifts(&mut seeded);
+        let reply = lend(&mut seeded, lifts, agreed_by_plain);
+        counts[number_of(reply)] += 1;
+    }
+    check_reached(&counts, 50);
+}
+
+#[test]
+fn plain_version_agrees_on_full_sheets() {
+    let mut seeded = Seeded::new(28);
+    let (mut longest, mut chosen) = (0, 0);
+    for most_rounds in [1, 3, 20_000].repeat(100) {
+        let lifts = fitting_lifts(&mut seeded, 4_096, most_rounds);
+        longest += usize::from(write_sheet(&lifts).len() == 12_389);
+        let reply = lend(&mut seeded, lifts, agreed_by_plain);
+        chosen += usize::from(number_of(reply) == 0);
+    }
+    let script = Script::longest(&mut seeded);
+    agreed_by_plain(lent_of(&script));
+    assert!(longest >= 30 && chosen >= 30, "{longest} {chosen}");
 }
 
 /// Whether a lift was not counted.

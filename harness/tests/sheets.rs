@@ -1,11 +1,11 @@
 //! Compares the archive's check of a sheet with the reference: the document's cases, its traps and seeded sheets.
 
-use harness::archive;
 use harness::reference::{check, read_sheet, write_sheet, SheetLift, Verdict};
 use harness::seeded::Seeded;
 use harness::sheets::{damaged_sheet, fitting_lifts, LIFT_DAMAGES, WORD_DAMAGES};
 use harness::sheets::{held, lift, longest, numbered, EXAMPLE, NONE};
 use harness::sheets::{names_of_sheet_sorts, Checked};
+use harness::{archive, plain};
 use std::collections::BTreeMap;
 
 /// The largest sum and measure.
@@ -745,4 +745,39 @@ fn sheets_of_full_size_agree() {
         counts[number_of(agreed(&words))] += 1;
     }
     check_reached(&counts, 1);
+}
+
+/// Whether a refusal is because of a word: 2 to 6, and 16.
+fn is_of_a_word(number: u32) -> bool {
+    matches!(number, 2..=6 | 16)
+}
+
+/// Checks that the bare pass gives the refusals because of a word and no other; the verdict.
+fn agreed_by_bare_pass(sheet: &[u32]) -> Verdict {
+    let verdict = check(sheet);
+    let expected = match verdict {
+        Verdict::Refused { number, place } if is_of_a_word(number) => Err((number, place)),
+        _ => Ok(()),
+    };
+    if number_of(verdict) != 1 {
+        assert_eq!(plain::read_words(sheet), expected, "{sheet:08X?}");
+    }
+    verdict
+}
+
+#[test]
+fn bare_pass_agrees() {
+    let mut seeded = Seeded::new(29);
+    let mut counts = [0; 17];
+    for _ in 0..100_000 {
+        let lifts = fitting(&mut seeded, 0);
+        let words = damaged_sheet(&mut seeded, lifts, 3);
+        counts[number_of(agreed_by_bare_pass(&words))] += 1;
+    }
+    check_reached(&counts, 500);
+    for _ in 0..200 {
+        let count = 4_080 + seeded.index(20);
+        let lifts = fitting_lifts(&mut seeded, count, 300);
+        agreed_by_bare_pass(&damaged_sheet(&mut seeded, lifts, 1));
+    }
 }
