@@ -2,7 +2,7 @@
 # make test       the whole gate: layout, proofs, must-fail edits, programs, and the comparison with Rust
 # make edit       tries one must-fail edit: make edit EDIT=round/both_straight_odds
 # make examples   writes the files of the examples again, from their generator
-# make bench      times the proved choice, with and without next quarter's sheet, and the taking of counts, beside the reference's
+# make bench      times the proved choice and the taking of counts beside plain versions, a bare pass over the sheet and the reference
 
 .PHONY: run test edit examples bench program archive
 

@@ -8,4 +8,5 @@ pub mod reference;
 pub mod seeded;
 pub mod sheets;
 pub mod texts;
+pub mod timing;
 pub mod ways;
