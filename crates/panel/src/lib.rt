@@ -462,7 +462,7 @@ fn select_all(sheet: &[u32], lifts: usize, words: &[u64], start: usize) -> Picks
     ensures { λ r. ⌜ Picked (panelOf (liftsOfSheet (now (sheet .entry))) (now (words .entry)) start) r ⌝ }
 {
     let starts = sheet::starts(sheet);
-    let sums = sheet::tally(sheet, Side::Old, Field::Measure(Side::Old));
+    let sums = sheet::both_sums(sheet).old;
     let low = sheet::donors(sheet, 0);
     let high = sheet::donors(sheet, 64);
     let number = gather(sheet, Field::Number, starts, lifts);

@@ -95,6 +95,10 @@ pub adds : (side : Side) (field : Field) → Folds _+_ (fieldOf (Round side)) (f
 unfolding totalBy
 adds side field = record { assoc = add-assoc; left = zero-add; right = add-zero; none = λ r. refl; some = λ r l ls. refl }
 
+-- the field of the lifts before position i is added up in a table
+abbrev pub Tallied : Side → Field → List ℕ → List ℕ → ℕ → Type 0
+Tallied side field = Gathered _+_ (λ r ls. totalBy (fieldOf (Round side)) (fieldOf field) r ls)
+
 -- no field is above 2^28
 field-le : (field : Field) (ws : List ℕ) → fieldOf field (liftOf ws) ≤ 2 ^ 28
 field-le Number ws = omega arith
@@ -133,8 +137,7 @@ tally-le side field r (w ∷ ws) = go (eqb (kind w) liftKind) (tally-le side fie
 
 -- there is room for what a turn adds
 pub tally-room : (side : Side) (field : Field) {ws tbl : List ℕ} {i k v : ℕ} → Legible ws
-    → Gathered _+_ (λ r ls. totalBy (fieldOf (Round side)) (fieldOf field) r ls) ws tbl i → i + 1 < length ws → k ≡ fieldOf (Round side) (liftOf (drop i ws))
-    → v ≡ fieldOf field (liftOf (drop i ws)) → getD tbl k 0 + v < 2 ^ 64
+    → Tallied side field ws tbl i → i + 1 < length ws → k ≡ fieldOf (Round side) (liftOf (drop i ws)) → v ≡ fieldOf field (liftOf (drop i ws)) → getD tbl k 0 + v < 2 ^ 64
 unfolding totalBy
 tally-room side field {ws} {tbl} {i} {k} {v} l g h ek ev =
     let t = turn (g .between) h in

@@ -9,7 +9,7 @@ ghost use Rattle.laws.specs.Sum.{indicator};
 ghost use Rattle.sheet.specs.Sheet.{longest, kind as kindOf, payload as payloadOf, placeOf, liftOf, lifts, word as wordOf};
 ghost use Rattle.sheet.specs.Reading.{next as nextOf, follows as followsOf, misnumbered as misnumberedOf, isPlace, tooLarge as tooLargeOf, beyond as beyondOf, misplaced as misplacedOf, uncountedNewcomer as uncountedNewcomerOf, miscounted as miscountedOf, mismarked as mismarkedOf, fault, unless, sound, reading, ofWords, Legible};
 ghost use Rattle.sheet.specs.Rounds.{rounds, filledIn as filledInOf, placeAt, inUse};
-ghost use Rattle.sheet.specs.Refusal.{unheld, oversize, unmeasured, crowded, ofRounds, verdict, refusal, told, toldOfWords};
+ghost use Rattle.sheet.specs.Refusal.{unheld, crowded, ofRounds, verdict, refusal, told, toldOfWords};
 ghost use Rattle.sheet.specs.Tables.{writtenAt, fieldOf, tallyOf, donorsOf, bitOf, startsOf, ByRound, breaks as breaksOf, first as firstOf};
 
 // A sheet that fits: how many lifts and how many new rounds it has.
@@ -183,6 +183,12 @@ enum Rule {
     Oversize,
     Unmeasured,
     Crowded,
+}
+
+// The sums of all rounds, by old round and by new round.
+pub struct Sums {
+    pub old: [u64; Sheet::TABLE],
+    pub new: [u64; Sheet::TABLE],
 }
 
 // A round or a place that is looked for.
@@ -463,6 +469,29 @@ pub fn tally(sheet: &[u32], side: Side, field: Field) -> [u64; Sheet::TABLE]
     sums
 }
 
+// The sum of each old round and of each new round, in one walk; a held word is passed over in a step of its own.
+pub fn both_sums(sheet: &[u32]) -> Sums
+    requires { ⌜ Legible (now sheet) ⌝ }
+    ensures { λ r. ⌜ r .old ≡ tallyOf Side.Old (Field.Measure Side.Old) (lifts (now (sheet .entry))) ⌝ }
+    ensures { λ r. ⌜ r .new ≡ tallyOf Side.New (Field.Measure Side.New) (lifts (now (sheet .entry))) ⌝ }
+{
+    let mut old = [0u64; Sheet::TABLE];
+    let mut new = [0u64; Sheet::TABLE];
+    let mut i = 0;
+    while i + 1 < sheet.len() {
+        if Sheet::kind(sheet[i]) == Sheet::HELD {
+            i += 1;
+        } else {
+            let from = value(sheet, i, Field::Round(Side::Old)) as usize;
+            let to = value(sheet, i, Field::Round(Side::New)) as usize;
+            old[from] += value(sheet, i, Field::Measure(Side::Old));
+            new[to] += value(sheet, i, Field::Measure(Side::New));
+            i += 3;
+        }
+    }
+    Sums { old, new }
+}
+
 // The bit of an old round among the 64 from `first` up, for a lift that sends measure.
 fn bit(round: u64, measure: u64, first: u64) -> u64
     ensures { λ r. ⌜ r ≡ bitOf round measure first ⌝ }
@@ -605,25 +634,6 @@ fn find_unheld(sheet: &[u32]) -> Found
     first(Rule::Unheld, &counts, &held)
 }
 
-// The first old or new round whose sum is too large.
-fn find_oversize(sheet: &[u32], side: Side) -> Found
-    requires { ⌜ Legible (now sheet) ⌝ }
-    ensures { λ r. ⌜ r ≡ firstOf (rounds (oversize side (lifts (now (sheet .entry))))) ⌝ }
-{
-    let sums = tally(sheet, side, Field::Measure(side));
-    first(Rule::Oversize, &sums, &sums)
-}
-
-// The first new round whose sum is 0.
-fn find_unmeasured(sheet: &[u32]) -> Found
-    requires { ⌜ Legible (now sheet) ⌝ }
-    ensures { λ r. ⌜ r ≡ firstOf (rounds (unmeasured (lifts (now (sheet .entry))))) ⌝ }
-{
-    let counts = tally(sheet, Side::New, Field::Unit);
-    let sums = tally(sheet, Side::New, Field::Measure(Side::New));
-    first(Rule::Unmeasured, &counts, &sums)
-}
-
 // The first new round with three donors or more.
 fn find_crowded(sheet: &[u32]) -> Found
     requires { ⌜ Legible (now sheet) ⌝ }
@@ -642,13 +652,17 @@ fn check_rounds(sheet: &[u32]) -> Checked
     if let Found::At(r) = find_unheld(sheet) {
         return Checked::Refused(Refusal::Unheld(r));
     }
-    if let Found::At(r) = find_oversize(sheet, Side::Old) {
+    let sums = both_sums(sheet);
+    let old = sums.old;
+    let new = sums.new;
+    if let Found::At(r) = first(Rule::Oversize, &old, &old) {
         return Checked::Refused(Refusal::Oversize(r));
     }
-    if let Found::At(r) = find_oversize(sheet, Side::New) {
+    if let Found::At(r) = first(Rule::Oversize, &new, &new) {
         return Checked::Refused(Refusal::Oversize(r));
     }
-    if let Found::At(r) = find_unmeasured(sheet) {
+    let counts = tally(sheet, Side::New, Field::Unit);
+    if let Found::At(r) = first(Rule::Unmeasured, &counts, &new) {
         return Checked::Refused(Refusal::Unmeasured(r));
     }
     if let Found::At(r) = find_crowded(sheet) {

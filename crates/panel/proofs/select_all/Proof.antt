@@ -15,77 +15,77 @@ use Rattle.panel.proofs.select_all.Tie as tie
 starts-requires : tie.Need-starts-requires
 starts-requires c κs = c .before .before .pre .0 .legible
 
-tally-requires : tie.Need-tally-requires
-tally-requires c κs = c .before .before .before .pre .0 .legible
+both-sums-requires : tie.Need-both-sums-requires
+both-sums-requires c κs = c .before .before .before .pre .0 .legible
 
 donors-requires : tie.Need-donors-requires
-donors-requires c κs = c .before .before .before .before .pre .0 .legible
+donors-requires c κs = c .before .before .before .before .before .pre .0 .legible
 
 donors-requires-2 : tie.Need-donors-requires-2
-donors-requires-2 c κs = c .before .before .before .before .before .pre .0 .legible
+donors-requires-2 c κs = c .before .before .before .before .before .before .pre .0 .legible
 
 gather-requires : tie.Need-gather-requires
 gather-requires c κs =
-    let starts = c .before .before .before in
+    let starts = c .before .before .before .before in
     let p = starts .before .before .before .pre in
     (p .0 .legible, (starts .starts .ensures, (p .1, lifts-few p)))
 
 gather-requires-2 : tie.Need-gather-requires-2
 gather-requires-2 c κs =
-    let starts = c .before .before .before .before in
+    let starts = c .before .before .before .before .before in
     let p = starts .before .before .before .pre in
     (p .0 .legible, (starts .starts .ensures, (p .1, lifts-few p)))
 
 gather-requires-3 : tie.Need-gather-requires-3
 gather-requires-3 c κs =
-    let starts = c .before .before .before .before .before in
+    let starts = c .before .before .before .before .before .before in
     let p = starts .before .before .before .pre in
     (p .0 .legible, (starts .starts .ensures, (p .1, lifts-few p)))
 
 gather-requires-4 : tie.Need-gather-requires-4
 gather-requires-4 c κs =
-    let starts = c .before .before .before .before .before .before in
+    let starts = c .before .before .before .before .before .before .before in
     let p = starts .before .before .before .pre in
     (p .0 .legible, (starts .starts .ensures, (p .1, lifts-few p)))
 
 gather-requires-5 : tie.Need-gather-requires-5
 gather-requires-5 c κs =
-    let starts = c .before .before .before .before .before .before .before in
+    let starts = c .before .before .before .before .before .before .before .before in
     let p = starts .before .before .before .pre in
     (p .0 .legible, (starts .starts .ensures, (p .1, lifts-few p)))
 
 array-share-prefix-number : tie.Need-array-share-prefix-number
-array-share-prefix-number c = omega (arith, lifts-few (c .before .before .before .before .before .before .before .before .before .before .before .pre), c .before .before .before .before .gather .ok .1 .0 .1)
+array-share-prefix-number c = omega (arith, lifts-few (c .before .before .before .before .before .before .before .before .before .before .before .before .pre), c .before .before .before .before .gather .ok .1 .0 .1)
 
 slice-aggregate-select-rounds : tie.Need-slice-aggregate-select-rounds
 slice-aggregate-select-rounds c = sym (length-take-le _ _ (array-share-prefix-number (c .before)))
 
 array-share-prefix-from : tie.Need-array-share-prefix-from
-array-share-prefix-from c = omega (arith, lifts-few (c .before .before .before .before .before .before .before .before .before .before .before .before .pre), c .before .before .before .before .gather2 .ok .1 .0 .1)
+array-share-prefix-from c = omega (arith, lifts-few (c .before .before .before .before .before .before .before .before .before .before .before .before .before .pre), c .before .before .before .before .gather2 .ok .1 .0 .1)
 
 slice-aggregate-select-rounds-2 : tie.Need-slice-aggregate-select-rounds-2
 slice-aggregate-select-rounds-2 c = sym (length-take-le _ _ (array-share-prefix-from (c .before)))
 
 array-share-prefix-old : tie.Need-array-share-prefix-old
-array-share-prefix-old c = omega (arith, lifts-few (c .before .before .before .before .before .before .before .before .before .before .before .before .before .pre), c .before .before .before .before .gather3 .ok .1 .0 .1)
+array-share-prefix-old c = omega (arith, lifts-few (c .before .before .before .before .before .before .before .before .before .before .before .before .before .before .pre), c .before .before .before .before .gather3 .ok .1 .0 .1)
 
 slice-aggregate-select-rounds-3 : tie.Need-slice-aggregate-select-rounds-3
 slice-aggregate-select-rounds-3 c = sym (length-take-le _ _ (array-share-prefix-old (c .before)))
 
 array-share-prefix-new : tie.Need-array-share-prefix-new
-array-share-prefix-new c = omega (arith, lifts-few (c .before .before .before .before .before .before .before .before .before .before .before .before .before .before .pre), c .before .before .before .before .gather4 .ok .1 .0 .1)
+array-share-prefix-new c = omega (arith, lifts-few (c .before .before .before .before .before .before .before .before .before .before .before .before .before .before .before .pre), c .before .before .before .before .gather4 .ok .1 .0 .1)
 
 slice-aggregate-select-rounds-4 : tie.Need-slice-aggregate-select-rounds-4
 slice-aggregate-select-rounds-4 c = sym (length-take-le _ _ (array-share-prefix-new (c .before)))
 
 array-share-prefix-held : tie.Need-array-share-prefix-held
-array-share-prefix-held c = omega (arith, lifts-few (c .before .before .before .before .before .before .before .before .before .before .before .before .before .before .before .pre), c .before .before .before .before .gather5 .ok .1 .0 .1)
+array-share-prefix-held c = omega (arith, lifts-few (c .before .before .before .before .before .before .before .before .before .before .before .before .before .before .before .before .pre), c .before .before .before .before .gather5 .ok .1 .0 .1)
 
 slice-aggregate-select-rounds-5 : tie.Need-slice-aggregate-select-rounds-5
 slice-aggregate-select-rounds-5 c = sym (length-take-le _ _ (array-share-prefix-held (c .before)))
 
 array-borrow-prefix-donor : tie.Need-array-borrow-prefix-donor
-array-borrow-prefix-donor c = lifts-few (c .before .before .before .before .before .before .before .before .before .before .before .before .before .before .before .before .pre)
+array-borrow-prefix-donor c = lifts-few (c .before .before .before .before .before .before .before .before .before .before .before .before .before .before .before .before .before .pre)
 
 slice-aggregate-select-rounds-6 : tie.Need-slice-aggregate-select-rounds-6
 slice-aggregate-select-rounds-6 c = sym (length-take-le _ _ (array-borrow-prefix-donor (c .before)))
@@ -100,12 +100,12 @@ given c =
     let number = from .before in
     let high = number .before in
     let low = high .before in
-    let sums = low .before in
+    let sums = low .before .before in
     let starts = sums .before in
     let n = starts .before .before .before .args .lifts in
-    lent (take n (number .gather .result)) (take n (from .gather2 .result)) (take n (old .gather3 .result)) (take n (new .gather4 .result)) (take n (held .gather5 .result)) (starts .starts .result) (sums .tally .result) (low .donors .result) (high .donors2 .result)
+    lent (take n (number .gather .result)) (take n (from .gather2 .result)) (take n (old .gather3 .result)) (take n (new .gather4 .result)) (take n (held .gather5 .result)) (starts .starts .result) (sums .both-sums .result .old) (low .donors .result) (high .donors2 .result)
 
-lends : (c : tie.After-high) → Lends (lifts (c .before .before .before .before .before .before .before .before .before .before .before .before .before .before .before .before .before .before .before .before .before .args .sheet .now)) (given c)
+lends : (c : tie.After-high) → Lends (lifts (c .before .before .before .before .before .before .before .before .before .before .before .before .before .before .before .before .before .before .before .before .before .before .args .sheet .now)) (given c)
 lends c =
     let held = c .before .before .before .before .before .before .before .before .before .before in
     let new = held .before in
@@ -114,7 +114,7 @@ lends c =
     let number = from .before in
     let high = number .before in
     let low = high .before in
-    let sums = low .before in
+    let sums = low .before .before in
     let starts = sums .before in
     let begin = starts .before .before .before in
     record {
@@ -125,7 +125,7 @@ lends c =
       new = new .gather4 .ensures;
       held = held .gather5 .ensures;
       starts = starts .starts .ensures;
-      sums = sums .tally .ensures;
+      sums = sums .both-sums .ensures .0;
       low = low .donors .ensures;
       high = high .donors2 .ensures;
     }
@@ -138,12 +138,12 @@ select-rounds-requires c κs =
     let old = new .before in
     let from = old .before in
     let number = from .before in
-    let begin = number .before .before .before .before .before .before .before .before .before .before .before .before in
+    let begin = number .before .before .before .before .before .before .before .before .before .before .before .before .before in
     (lends-ready (lends c) (begin .pre .1) (slice-aggregate-select-rounds number) (slice-aggregate-select-rounds-2 from) (slice-aggregate-select-rounds-3 old) (slice-aggregate-select-rounds-4 new) (slice-aggregate-select-rounds-5 held), sym (slice-aggregate-select-rounds-6 donor) ∙ slice-aggregate-select-rounds number)
 
 returns : tie.Need-returns
 returns c =
-    let a = c .before .before .before .before .before .before .before .before .before .before .before .before .before .before .before .before .before .before .before .before .before .before .before .args in
+    let a = c .before .before .before .before .before .before .before .before .before .before .before .before .before .before .before .before .before .before .before .before .before .before .before .before .args in
     subst (Picked (panel (lifts (a .sheet .now)) (a .words .now) (a .start))) (sym (c .before .select-rounds .ensures))
     (gathered (lends (c .before .before)) (a .words .now) (a .start))
 
@@ -152,7 +152,7 @@ select-all-spec =
     tie.close
     (tie.spec
     starts-requires
-    tally-requires
+    both-sums-requires
     donors-requires
     donors-requires-2
     gather-requires

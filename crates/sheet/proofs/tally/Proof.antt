@@ -3,17 +3,14 @@ use native.Mathlib.Omega.{arith}
 use Prim.Native.Nat.{_+_, _-_, _≤_, _<_}
 use mathlib.Core.Path.{refl}
 use lib.ListN.{length}
-use Rattle.laws.specs.Sum.{totalBy}
 use Rattle.sheet.specs.Sheet.{mostRounds}
-use Rattle.sheet.specs.Tables.{fieldOf}
-use Rattle.sheet.specs.declared.Field.the-variants.{Round}
 use Rattle.sheet.proofs.Walks.{Turn, turn, inside, round-lt, moved}
-use Rattle.sheet.proofs.Tables.{Gathered, adds, gather-none, gather-turn, gather-end, tally-room}
+use Rattle.sheet.proofs.Tables.{Tallied, adds, gather-none, gather-turn, gather-end, tally-room}
 use Rattle.sheet.proofs.tally.Statement.{statement}
 use Rattle.sheet.proofs.tally.Tie as tie
 
 abbrev Inv-loop : tie.InvT-loop
-Inv-loop sheet side field sums₀ i₀ sums i = Gathered _+_ (λ r ls. totalBy (fieldOf (Round side)) (fieldOf field) r ls) sheet sums i
+Inv-loop sheet side field sums₀ i₀ sums i = Tallied side field sheet sums i
 
 abbrev μ-loop : tie.MeasureT-loop
 μ-loop sheet side field sums₀ i₀ sums i = length sheet - i
