@@ -2,7 +2,7 @@
 //! make bench
 
 use harness::examples::TOWN;
-use harness::reference::{write_sheet, Intake, Reply, SheetLift, LONGEST_SHEET};
+use harness::reference::{write_sheet, Intake, Reply, SheetLift, LONGEST_SHEET, MOST_LIFTS};
 use harness::seeded::Seeded;
 use harness::sheets::{lifelike_lifts, Town};
 use harness::texts::text_of;
@@ -11,9 +11,6 @@ use harness::{archive, plain, reference};
 
 /// How many sheets of each size are chosen from in turn.
 const SHEETS: u64 = 8;
-
-/// The most lifts of a sheet. For smaller ones more calls are made between two readings of the clock, so that these take no larger part.
-const MOST_LIFTS: usize = 4_096;
 
 /// How many random words are lent.
 const WORDS: usize = 4_096;
@@ -112,7 +109,8 @@ fn print_choices() {
     table.print();
 }
 
-/// Adds the times of choices of this name from sheets of so many lifts.
+/// Adds the times of choices of this name from sheets of so many lifts. From smaller sheets more are made between two readings of the clock,
+/// so that these take no larger part.
 fn add_choices(
     table: &mut Table,
     name: &str,

@@ -1,7 +1,9 @@
-//! The bare pass over a sheet's words: the least that any program must do with a sheet.
+//! The bare pass over a sheet's words: the least that any program must do with a sheet. The plain calls read lift by lift instead, which is
+//! faster.
 
 use super::sheet::{fill_in, has_measure, place_of, END, HELD, LIFT, NEW_PLACE, OLD_PLACE};
-use super::{Refusal, MEASURE, MOST_LIFTS, PAYLOAD, PAYLOAD_BITS};
+use super::{Refusal, MEASURE, PAYLOAD, PAYLOAD_BITS};
+use crate::reference::MOST_LIFTS;
 
 /// What the words before a word tell.
 struct Before {

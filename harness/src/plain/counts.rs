@@ -1,8 +1,8 @@
 //! The taking of counts.
 
 use super::sheet::{check_rounds, place_of, read_sheet, Round, Rounds};
-use super::{Refusal, MEASURE, MOST_READ, NOT_COUNTED, PAYLOAD, ROUNDS};
-use crate::reference::Intake;
+use super::{Refusal, MEASURE, MOST_READ, PAYLOAD, ROUNDS};
+use crate::reference::{Intake, NOT_COUNTED};
 
 /// The measure of a lift that has no line.
 const NO_LINE: u32 = u32::MAX;

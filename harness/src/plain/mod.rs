@@ -11,17 +11,16 @@ pub use bare::read_words;
 pub use counts::take_counts;
 pub use panel::choose_panel;
 
-use crate::reference::LONGEST_SHEET;
+use crate::reference::{self, LONGEST_SHEET};
 
 /// A refusal's number and place.
 pub type Refusal = (u32, usize);
 
-/// The most lifts a sheet has, and the most that are read before the end word tells.
-const MOST_LIFTS: usize = 4_096;
+/// The most lifts that are read before the end word tells how many there are.
 const MOST_READ: usize = LONGEST_SHEET / 3;
 
-/// The highest round, and how many a place can name.
-const MOST_ROUNDS: usize = 100;
+/// The highest round, as an index, and how many a place can name.
+const MOST_ROUNDS: usize = reference::MOST_ROUNDS as usize;
 const ROUNDS: usize = 128;
 
 /// How many low bits of a word are its payload, and of a place's payload its measure.
@@ -31,6 +30,3 @@ const MEASURE_BITS: u32 = 21;
 /// The bits of a word that are its payload, and its measure.
 const PAYLOAD: u32 = (1 << PAYLOAD_BITS) - 1;
 const MEASURE: u32 = (1 << MEASURE_BITS) - 1;
-
-/// What stands for the measure in a new place of a real round if the lift was not counted: all ones.
-const NOT_COUNTED: u32 = MEASURE;

@@ -1,8 +1,8 @@
 //! The choice for one new round.
 
 use super::sheet::{place_of, Rounds};
-use super::{Refusal, MEASURE, NOT_COUNTED, PAYLOAD};
-use crate::reference::Outcome;
+use super::{Refusal, MEASURE, PAYLOAD};
+use crate::reference::{Outcome, NOT_COUNTED};
 
 /// Random words, and how far they have been read.
 pub(super) struct Reader<'a> {

@@ -1,8 +1,7 @@
 //! A sheet's words read in one pass, and the tables of its rounds.
 
-use super::{Refusal, MEASURE, MEASURE_BITS, MOST_LIFTS, MOST_ROUNDS, NOT_COUNTED};
-use super::{PAYLOAD, PAYLOAD_BITS, ROUNDS};
-use crate::reference::{LARGEST_SUM, LONGEST_SHEET};
+use super::{Refusal, MEASURE, MEASURE_BITS, MOST_ROUNDS, PAYLOAD, PAYLOAD_BITS, ROUNDS};
+use crate::reference::{LARGEST_SUM, LONGEST_SHEET, MOST_LIFTS, NOT_COUNTED};
 
 // The kinds of words.
 pub(super) const LIFT: u32 = 1;
