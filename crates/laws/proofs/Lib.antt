@@ -1,4 +1,5 @@
 pub mod Lists
+pub mod Pieces
 pub mod Tests
 pub mod Sums
 pub mod Intervals

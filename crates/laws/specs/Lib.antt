@@ -4,3 +4,4 @@ pub mod Fraction
 pub mod Plan
 pub mod Same
 pub mod Among
+pub mod Pieces

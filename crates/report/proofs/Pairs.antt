@@ -1,43 +1,35 @@
 -- The lines of output words: what is left of them, pair by pair; and those of the pairs of choices. Assumes nothing.
 use Prim.Native.Nat.{ℕ, suc, _+_, _*_, _/_, _^_, _≤_, _<_}
-use mathlib.Core.Path.{_≡_, refl, ap, _∙_}
-use mathlib.Core.List.{List, [], _∷_, _++_, List·Memᴰ·head, List·Memᴰ·tail}
+use mathlib.Core.Path.{_≡_, refl}
+use mathlib.Core.List.{List, [], _∷_, _++_, flatMap, List·Memᴰ·head, List·Memᴰ·tail}
+use native.Mathlib.Nat.{add-zero}
+use native.Mathlib.Numerals.{add-one}
 use native.Mathlib.Omega.{arith}
-use lib.ListN.{length, getD, take, drop, length-drop}
+use lib.ListN.{length, getD, take, drop, drop-of-length-le}
 use lib.Seq.{drop-cons}
+use Rattle.laws.specs.Pieces.{cut, pieces}
 use Rattle.laws.proofs.Lists.{All}
+use Rattle.laws.proofs.Pieces.{length-pieces, piece-element, pieces-more}
 use Rattle.sheet.specs.Sheet.{payload, placeOf}
 use Rattle.sheet.proofs.Trips.{payload-word}
-use Rattle.selection.specs.Choice.{Choice, roundWord, written}
-use Rattle.report.specs.Report.{line, lines, pairLines}
+use Rattle.selection.specs.Choice.{Choice, roundWord, pairOf, written}
+use Rattle.report.specs.Report.{line, lines, pairLine, pairLines}
 use Rattle.report.proofs.Choices.{Printable}
 
--- what is left from pair k on is its line and what is left behind it
+-- the lines from pair k on
+unfoldable pub linesFrom : List ℕ → ℕ → List ℕ
+linesFrom ws k = flatMap pairLine (drop k (pieces 2 ws))
+
+-- are its line and those behind it
 pub left-pair : (ws : List ℕ) (k : ℕ) {round number outcome : ℕ} → k < length ws / 2 → round ≡ placeOf (getD ws (2 * k) 0) .round
-    → number ≡ payload (getD ws (2 * k + 1) 0) → outcome ≡ placeOf (getD ws (2 * k) 0) .measure
-    → pairLines (drop (2 * k) ws) ≡ line round number outcome ++ pairLines (drop (2 * (k + 1)) ws)
-unfolding pairLines
-left-pair ws k h r n o = rw (r, n, o, pair)
-  where
-    next : suc (2 * k) ≡ 2 * k + 1
-    next = omega arith
+    → number ≡ payload (getD ws (2 * k + 1) 0) → outcome ≡ placeOf (getD ws (2 * k) 0) .measure → linesFrom ws k ≡ line round number outcome ++ linesFrom ws (k + 1)
+unfolding flatMap linesFrom
+left-pair ws k h r n o =
+    rw (add-one k, drop-cons (pieces 2 ws) k [] (omega (arith, length-pieces 2 ws)), piece-element 2 ws k 0 0 h (omega arith), add-zero, piece-element 2 ws k 1 0 h (omega arith), r, n, o)
 
-    behind : suc (2 * k + 1) ≡ 2 * (k + 1)
-    behind = omega arith
-
-    pair : drop (2 * k) ws ≡ getD ws (2 * k) 0 ∷ getD ws (2 * k + 1) 0 ∷ drop (2 * (k + 1)) ws
-    pair =
-        drop-cons ws (2 * k) 0 (omega arith)
-        ∙ ap (λ l. getD ws (2 * k) 0 ∷ l) (ap (λ n. drop n ws) next ∙ drop-cons ws (2 * k + 1) 0 (omega arith) ∙ ap (λ n. getD ws (2 * k + 1) 0 ∷ drop n ws) behind)
-
-pub no-pair : (ws : List ℕ) (k : ℕ) → length ws / 2 ≤ k → pairLines (drop (2 * k) ws) ≡ []
-unfolding pairLines
-no-pair ws k h = few (drop (2 * k) ws) (rw length-drop (omega arith))
-  where
-    few : (l : List ℕ) → length l ≤ 1 → pairLines l ≡ []
-    few [] h = refl
-    few (w ∷ []) h = refl
-    few (w ∷ v ∷ l) h = absurd (omega arith)
+pub no-pair : (ws : List ℕ) (k : ℕ) → length ws / 2 ≤ k → linesFrom ws k ≡ []
+unfolding flatMap linesFrom
+no-pair ws k h = rw (drop-of-length-le (pieces 2 ws) {i = k} (omega (arith, length-pieces 2 ws)))
 
 -- ---- the pairs of choices
 
@@ -54,9 +46,9 @@ module _ (c : Choice) (p : Printable c) where
 
 -- the lines of the pairs that are written are the lines of the choices
 pub pair-lines : (cs : List Choice) (out : List ℕ) → All Printable cs → pairLines (take (2 * length cs) (written cs out)) ≡ lines cs
-unfolding pairLines lines written
+unfolding cut pairLines flatMap lines written
 pair-lines [] out e = refl
 pair-lines (c ∷ cs) out e =
     let n : 2 * suc (length cs) ≡ suc (suc (2 * length cs)) = omega arith in
     let p : Printable c = e c (List·Memᴰ·head refl) in
-    rw (n, round-told c p, outcome-told c p, payload-word 6 (c .number) (p .number), pair-lines cs (drop 2 out) (λ k m. e k (List·Memᴰ·tail m)))
+    rw (n, pieces-more 2 (pairOf c) (take (2 * length cs) (written cs (drop 2 out))) (omega arith) refl, round-told c p, outcome-told c p, payload-word 6 (c .number) (p .number), pair-lines cs (drop 2 out) (λ k m. e k (List·Memᴰ·tail m)))

@@ -2,16 +2,17 @@
 use Prim.Native.Nat.{ℕ, zero, suc, _+_, _*_, _-_, _/_, _^_, _≤_, _<_, min}
 use mathlib.Core.Path.{_≡_, refl, sym, ap, _∙_}
 use mathlib.Core.Bool.{Bool, true, false}
-use mathlib.Core.List.{List, [], _∷_, _++_}
-use native.Mathlib.Nat.{pow-suc, pow-le-pow-right, le-div-iff-mul-le, mul-le-mul-left}
+use mathlib.Core.List.{List, [], _∷_, _++_, map}
+use native.Mathlib.Nat.{pow-suc, pow-le-pow-right}
+use native.Mathlib.Numerals.{add-one}
 use native.Mathlib.Omega.{arith}
-use lib.Dec.{eqb, leb}
-use lib.ListN.{length, getD, set, take, drop, length-append, length-set, length-take, length-drop, drop-of-length-le}
-use lib.Seq.{getD-set-same, getD-set-other, drop-cons, length-take-le, take-all, take-at, take-take, getD-take, ext-getD}
-use borrow.Author.Tests.{eqb-true, eqb-false, leb-true, leb-false}
-use Rattle.sheet.specs.Tables.{tabulate}
-use Rattle.sheet.proofs.Tables.{getD-tabulate, length-tabulate}
-use Rattle.report.specs.Report.{littleEndian, wordAt, wordsOf, mostWords, randomWords, CountTheorem, Decoded}
+use lib.Dec.{leb}
+use lib.ListN.{length, getD, set, take, drop, length-append, length-set, length-take, length-map, drop-of-length-le, List·getD-map}
+use lib.Seq.{drop-cons, length-take-le, take-all, take-at, take-suc, take-suc-set, take-take}
+use borrow.Author.Tests.{leb-true, leb-false}
+use Rattle.laws.specs.Pieces.{pieces}
+use Rattle.laws.proofs.Pieces.{length-pieces, piece-length, piece-lent, pieces-first}
+use Rattle.report.specs.Report.{littleEndian, wordsOf, mostWords, randomWords, CountTheorem, Decoded}
 
 -- ---- one word
 
@@ -50,46 +51,44 @@ suffix-end {bytes} {w} {n} h s =
 
 -- ---- many
 
--- the bytes of word i, from their start to their end
-module _ (size : ℕ) (bytes : List ℕ) (i : ℕ) where
-  pub part-is : take (size * i + size - size * i) (drop (size * i) bytes) ≡ take size (drop (size * i) bytes)
-  part-is =
-      let e : size * i + size - size * i ≡ size = omega arith in
-      rw e
-
-  pub part-length : (n : ℕ) → size * n ≤ length bytes → i < n → length (take (size * i + size - size * i) (drop (size * i) bytes)) ≡ size
-  part-length n r h = rw part-is (length-take-le size _ (rw length-drop (omega (arith, mul-le-mul-left size h))))
-
--- the first i words are stored
-pub record Stored (size : ℕ) (bytes words : List ℕ) (n i : ℕ) : Type 0 where
-  pub long : length words ≡ n
-  pub done : (k : ℕ) → k < i → getD words k 0 ≡ wordAt size bytes k
-
-pub stored-none : (size : ℕ) (bytes words : List ℕ) → Stored size bytes words (length words) 0
-stored-none size bytes words = record { long = refl; done = λ k h. absurd (omega arith) }
-
-module _ {size : ℕ} {bytes words : List ℕ} {n i : ℕ} (s : Stored size bytes words n i) where
-  pub stored-turn : {words′ : List ℕ} {v : ℕ} → i < length words → v ≡ wordAt size bytes i → words′ ≡ set words i v
-      → Stored size bytes words′ n (i + 1)
-  stored-turn {words′} {v} h e w = rw w (record { long = simp length-set (s .long); done = λ k l. go k l (eqb k i) refl })
-    where
-      go : (k : ℕ) → k < i + 1 → (t : Bool) → eqb k i ≡ t → getD (set words i v) k 0 ≡ wordAt size bytes k
-      go k l true q = rw (eqb-true k i q, getD-set-same words i v 0 h) e
-      go k l false q =
-          getD-set-other words i k v 0 (eqb-false k i q) ∙ s .done k (omega (arith, eqb-false k i q))
-
-  pub stored-end : n ≤ i → size * n ≤ length bytes → 0 < size → words ≡ take n (wordsOf size bytes)
-  unfolding wordsOf
-  stored-end h r p =
-      let m : n ≤ length bytes / size = le-div-iff-mul-le p .1 (omega arith) in
-      let l : length (take n (tabulate (length bytes / size) (wordAt size bytes))) ≡ n = length-take-le n _ (rw length-tabulate m) in
-      ext-getD 0 words _ (s .long ∙ sym l) (λ k q. s .done k (omega (arith, s .long)) ∙ sym (getD-take n _ k 0 (omega (arith, s .long)) ∙ getD-tabulate _ _ k (omega (arith, s .long))))
-
--- ---- all the words, and the first ones
-
 pub length-words : (size : ℕ) (bytes : List ℕ) → length (wordsOf size bytes) ≡ length bytes / size
 unfolding wordsOf
-length-words size bytes = length-tabulate (length bytes / size) (wordAt size bytes)
+length-words size bytes = length-map (pieces size bytes) littleEndian ∙ length-pieces size bytes
+
+-- the word at place i
+word-at : (size : ℕ) (bytes : List ℕ) (i : ℕ) → i < length bytes / size
+    → getD (wordsOf size bytes) i 0 ≡ littleEndian (take (size * i + size - size * i) (drop (size * i) bytes))
+unfolding wordsOf littleEndian
+word-at size bytes i h = List·getD-map littleEndian (pieces size bytes) i [] ∙ ap littleEndian (sym (piece-lent size bytes i h))
+
+-- the first i of n words are stored
+pub record Stored (size : ℕ) (bytes words : List ℕ) (n i : ℕ) : Type 0 where
+  pub long : length words ≡ n
+  pub inside : n ≤ length bytes / size
+  pub same : take i words ≡ take i (wordsOf size bytes)
+
+pub stored-none : (size : ℕ) (bytes words : List ℕ) → length words ≤ length bytes / size → Stored size bytes words (length words) 0
+stored-none size bytes words h = record { long = refl; inside = h; same = refl }
+
+module _ {size : ℕ} {bytes words : List ℕ} {n i : ℕ} (s : Stored size bytes words n i) where
+  -- the bytes of the next word are as many as they should be
+  pub stored-next : i < length words → length (take (size * i + size - size * i) (drop (size * i) bytes)) ≡ size
+  stored-next h = let l : i < length bytes / size = omega arith in rw (piece-lent size bytes i l) (piece-length size bytes i l)
+
+  pub stored-turn : {v : ℕ} → i < length words → v ≡ littleEndian (take (size * i + size - size * i) (drop (size * i) bytes))
+      → Stored size bytes (set words i v) n (i + 1)
+  stored-turn {v} h e =
+      let l : i < length bytes / size = omega arith in
+      record {
+        long = simp length-set (s .long);
+        inside = s .inside;
+        same = rw (add-one i, take-suc-set words i v h, take-suc (wordsOf size bytes) i 0 (omega (arith, length-words size bytes)), s .same, word-at size bytes i l, e);
+      }
+
+  pub stored-end : n ≤ i → words ≡ take n (wordsOf size bytes)
+  stored-end h = sym (take-all n words (omega (arith, s .long))) ∙ sym (take-take n i words h) ∙ ap (take n) (s .same) ∙ take-take n i (wordsOf size bytes) h
+
+-- ---- all the words, and the first ones
 
 pub all-words : (size : ℕ) (bytes : List ℕ) → take (length bytes / size) (wordsOf size bytes) ≡ wordsOf size bytes
 all-words size bytes = take-all (length bytes / size) (wordsOf size bytes) (omega (arith, length-words size bytes))
@@ -131,34 +130,15 @@ decoded size n bytes words {part} {ws} m h p e =
 
 -- ---- the first bytes suffice
 
--- a part that lies in the first n elements
-within : (m i n : ℕ) (l : List ℕ) → i + m ≤ n → take m (drop i (take n l)) ≡ take m (drop i l)
-within m zero n l h = take-take m n l (omega arith)
-within m (suc i) zero l h = absurd (omega arith)
-within m (suc i) (suc n) [] h = refl
-within m (suc i) (suc n) (x ∷ l) h = within m i n l (omega arith)
-
 pub length-random : CountTheorem
 length-random bytes = rw (length-take, length-words)
 
-random-at : (bytes : List ℕ) (k : ℕ) → k < length (randomWords bytes) → getD (randomWords bytes) k 0 ≡ wordAt 8 bytes k
-unfolding wordsOf
-random-at bytes k h =
-    let n = length-random bytes in
-    getD-take mostWords (wordsOf 8 bytes) k 0 (omega arith) ∙ getD-tabulate (length bytes / 8) (wordAt 8 bytes) k (omega arith)
+take-map : {A B : Type 0} (f : A → B) (n : ℕ) (xs : List A) → take n (map f xs) ≡ map f (take n xs)
+take-map f zero xs = refl
+take-map f (suc n) [] = refl
+take-map f (suc n) (x ∷ xs) = ap (λ l. f x ∷ l) (take-map f n xs)
 
 -- no byte behind those of the first words matters
 pub random-first : (bytes : List ℕ) → randomWords (take (8 * mostWords) bytes) ≡ randomWords bytes
-random-first bytes = ext-getD 0 (randomWords first) (randomWords bytes) long same
-  where
-    first : List ℕ
-    first = take (8 * mostWords) bytes
-
-    long : length (randomWords first) ≡ length (randomWords bytes)
-    long = omega (arith, length-random first, length-random bytes, length-take (8 * mostWords) bytes)
-
-    same : (k : ℕ) → k < length (randomWords first) → getD (randomWords first) k 0 ≡ getD (randomWords bytes) k 0
-    same k h =
-        random-at first k h
-        ∙ ap littleEndian (within 8 (8 * k) (8 * mostWords) bytes (omega (arith, random-le first)))
-        ∙ sym (random-at bytes k (omega (arith, long)))
+unfolding wordsOf
+random-first bytes = rw (pieces-first 8 mostWords bytes (omega arith), take-map, take-take mostWords mostWords (pieces 8 bytes) (omega arith), ← take-map)

@@ -2,6 +2,7 @@
 use mathlib.Core.Path.{_≡_, refl}
 use mathlib.Core.Bool.{true}
 use Rattle.laws.specs.Interval.{pick}
+use Rattle.laws.specs.Pieces.{cut}
 use Rattle.laws.specs.Plan.{after}
 use Rattle.laws.specs.Sum.{total, totalBy}
 use Rattle.draw.specs.Draw.{drawFrom}
@@ -12,11 +13,10 @@ use Rattle.sheet.specs.Sheet.{lifts}
 use Rattle.sheet.specs.Reading.{fault, readFrom}
 use Rattle.sheet.specs.Rounds.{those, sends, ofRound}
 use Rattle.sheet.specs.Refusal.{firstRound, ofRounds, verdict}
-use Rattle.sheet.specs.Tables.{tabulate}
 use Rattle.selection.specs.Choice.{donorsOf, liftsOf, heldAt, heldIn, planOf, liftAt, panelFrom, reply}
 use Rattle.report.specs.Report.{littleEndian, wordsOf, digits, decimal, field, line, lines, wordsLine, refusedLine, textOf, report}
 use Rattle.report.specs.Worked.{cases, allRight}
 
 pub all-right : allRight cases ≡ true
-unfolding pick after total totalBy drawFrom run S U D oldWeight newWeight weights G fresh firstOdds preliminary stayOr replacement keyfitz select plan outcome lifts fault readFrom those sends ofRound firstRound ofRounds verdict tabulate donorsOf liftsOf heldAt heldIn planOf liftAt panelFrom reply littleEndian wordsOf digits decimal field line lines wordsLine refusedLine textOf report
+unfolding pick cut after total totalBy drawFrom run S U D oldWeight newWeight weights G fresh firstOdds preliminary stayOr replacement keyfitz select plan outcome lifts fault readFrom those sends ofRound firstRound ofRounds verdict donorsOf liftsOf heldAt heldIn planOf liftAt panelFrom reply littleEndian wordsOf digits decimal field line lines wordsLine refusedLine textOf report
 all-right = refl

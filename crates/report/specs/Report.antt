@@ -2,12 +2,12 @@
 use Prim.Native.Nat.{ℕ, zero, suc, _+_, _*_, _/_, _%_, _≤_, min}
 use mathlib.Core.Path.{_≡_}
 use mathlib.Core.Bool.{cond}
-use mathlib.Core.List.{List, [], _∷_, _++_}
+use mathlib.Core.List.{List, [], _∷_, _++_, map, flatMap}
 use lib.Dec.{eqb, ltb}
-use lib.ListN.{length, take, drop}
+use lib.ListN.{length, getD, take, drop}
+use Rattle.laws.specs.Pieces.{pieces}
 use Rattle.sheet.specs.Sheet.{mostRounds, longest, payload, placeOf, lifts}
 use Rattle.sheet.specs.Reading.{Numbered, numbered}
-use Rattle.sheet.specs.Tables.{tabulate}
 use Rattle.sheet.specs.Reply.{Reply}
 use Rattle.selection.specs.Choice.{Choice, Panel, chosen, short, panel, reply}
 
@@ -18,13 +18,9 @@ unfoldable pub littleEndian : List ℕ → ℕ
 littleEndian [] = 0
 littleEndian (b ∷ bs) = b + 256 * littleEndian bs
 
--- the word at place i, of `size` bytes
-abbrev pub wordAt : ℕ → List ℕ → ℕ → ℕ
-wordAt size bytes i = littleEndian (take size (drop (size * i) bytes))
-
 -- the words of `size` bytes: "an unfinished last word is ignored"
 unfoldable pub wordsOf : ℕ → List ℕ → List ℕ
-wordsOf size bytes = tabulate (length bytes / size) (wordAt size bytes)
+wordsOf size bytes = map littleEndian (pieces size bytes)
 
 -- "sheet.bin (32-bit little-endian)"
 abbrev pub sheetWords : List ℕ → List ℕ
@@ -122,11 +118,13 @@ report sheet size words =
 
 -- ---- as the code writes it
 
--- the lines of output words, two for each choice: "kind 5 (upper 7 bits round, lower 21 outcome), kind 6 (lift number)"
+-- the line of two output words: "kind 5 (upper 7 bits round, lower 21 outcome), kind 6 (lift number)"
+abbrev pub pairLine : List ℕ → List ℕ
+pairLine p = line (placeOf (getD p 0 0) .round) (payload (getD p 1 0)) (placeOf (getD p 0 0) .measure)
+
+-- the lines of output words, two for each choice
 unfoldable pub pairLines : List ℕ → List ℕ
-pairLines [] = []
-pairLines (w ∷ []) = []
-pairLines (w ∷ v ∷ ws) = line (placeOf w .round) (payload v) (placeOf w .measure) ++ pairLines ws
+pairLines ws = flatMap pairLine (pieces 2 ws)
 
 -- what is printed of a reply and the output words
 abbrev pub printedWords : Reply → List ℕ → List ℕ

@@ -1,31 +1,32 @@
 -- `report::put_lines` meets its contract: what is left is the line of the next pair and those behind it. Assumes nothing.
-use Prim.Native.Nat.{_+_, _-_, _*_, _/_}
+use Prim.Native.Nat.{_+_, _-_, _/_}
 use mathlib.Core.Path.{_≡_}
 use mathlib.Core.List.{_++_}
-use lib.ListN.{length, drop}
+use lib.ListN.{length}
 use Rattle.report.specs.Report.{line as lineOf, pairLines}
 use Rattle.report.proofs.Texts.{Writing, writing-none, writing-turn, writing-length, writing-room, writing-end}
-use Rattle.report.proofs.Pairs.{left-pair, no-pair}
+use Rattle.report.proofs.Pairs.{linesFrom, left-pair, no-pair}
 use native.Mathlib.Omega.{arith}
 use borrow.Author.Needs.{needs}
 use Rattle.report.proofs.put_lines.Statement.{statement}
 use Rattle.report.proofs.put_lines.Tie as tie
 
 abbrev Inv-loop : tie.InvT-loop
-Inv-loop text₀ from pairs count next₀ k₀ text next k = Writing (pairLines pairs) (pairLines (drop (2 * k) pairs)) text₀ from text next
+Inv-loop text₀ from pairs count next₀ k₀ text next k = Writing (pairLines pairs) (linesFrom pairs k) text₀ from text next
 
 abbrev μ-loop : tie.MeasureT-loop
 μ-loop text₀ from pairs count next₀ k₀ text next k = length pairs / 2 - k
 
 -- what is left is the line of this pair and what is left behind it
 line : (c : tie.After-put-line-arg Inv-loop μ-loop)
-    → pairLines (drop (2 * (c .before .before .before .before .before .before .before .loop .k)) (c .before .before .before .before .before .before .before .before .before .before .args .pairs .now))
+    → linesFrom (c .before .before .before .before .before .before .before .before .before .before .args .pairs .now) (c .before .before .before .before .before .before .before .loop .k)
     ≡ lineOf (c .before .before .before .round .result) (c .before .before .payload .result) (c .before .measure .result)
-    ++ pairLines (drop (2 * (c .before .before .before .before .before .before .before .loop .k + 1)) (c .before .before .before .before .before .before .before .before .before .before .args .pairs .now))
+    ++ linesFrom (c .before .before .before .before .before .before .before .before .before .before .args .pairs .now) (c .before .before .before .before .before .before .before .loop .k + 1)
 line c =
     left-pair (c .before .before .before .before .before .before .before .before .before .before .args .pairs .now) (c .before .before .before .before .before .before .before .loop .k) (c .before .before .before .before .before .before .loop-test .taken) (c .before .before .before .round .ensures) (c .before .before .payload .ensures) (c .before .measure .ensures)
 
 loop-holds : tie.Need-loop-holds Inv-loop μ-loop
+unfolding pairLines linesFrom
 loop-holds c = writing-none _ _
 
 mul-first : tie.Need-mul-first Inv-loop μ-loop
@@ -64,7 +65,7 @@ measure-requires c κs = search needs
 put-line-requires : tie.Need-put-line-requires Inv-loop μ-loop
 put-line-requires c κs =
     let s = c .before .before .before .before .before .before .before .loop in
-    writing-room (s .inv) (lineOf (c .before .before .before .round .result) (c .before .before .payload .result) (c .before .measure .result)) (pairLines (drop (2 * (s .k + 1)) (c .before .before .before .before .before .before .before .before .before .before .args .pairs .now))) (line c) (c .before .before .before .before .before .before .before .before .before .before .pre)
+    writing-room (s .inv) (lineOf (c .before .before .before .round .result) (c .before .before .payload .result) (c .before .measure .result)) (linesFrom (c .before .before .before .before .before .before .before .before .before .before .args .pairs .now) (s .k + 1)) (line c) (c .before .before .before .before .before .before .before .before .before .before .pre)
 
 add-k : tie.Need-add-k Inv-loop μ-loop
 add-k c = search needs

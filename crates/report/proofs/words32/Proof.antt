@@ -1,9 +1,7 @@
 -- `report::words32` meets its contract: the word at each place is stored, 4 bytes each. Assumes nothing.
-use Prim.Native.Nat.{_+_, _-_, _*_}
-use mathlib.Core.Path.{_≡_, refl, ap, _∙_}
-use lib.ListN.{length, take, drop}
-use Rattle.report.specs.Report.{littleEndian}
-use Rattle.report.proofs.Words.{part-is, part-length, Stored, stored-none, stored-turn, stored-end}
+use Prim.Native.Nat.{_-_}
+use lib.ListN.{length}
+use Rattle.report.proofs.Words.{Stored, stored-none, stored-next, stored-turn, stored-end}
 use native.Mathlib.Omega.{arith}
 use borrow.Author.Needs.{needs}
 use Rattle.report.proofs.words32.Statement.{statement}
@@ -15,13 +13,8 @@ Inv-loop bytes words₀ i₀ words i = Stored 4 bytes words (length words₀) i
 abbrev μ-loop : tie.MeasureT-loop
 μ-loop bytes words₀ i₀ words i = length words₀ - i
 
--- the bytes of the word are as many as they should be
-long : (c : tie.After-little-endian-arg Inv-loop μ-loop)
-    → length (take (4 * c .before .before .loop .i + 4 - 4 * c .before .before .loop .i) (drop (4 * c .before .before .loop .i) (c .before .before .before .before .before .args .bytes .now))) ≡ 4
-long c = part-length 4 (c .before .before .before .before .before .args .bytes .now) (c .before .before .loop .i) (length (c .before .before .loop .words)) (omega (arith, c .before .before .loop .inv .long)) (c .before .loop-test .taken)
-
 loop-holds : tie.Need-loop-holds Inv-loop μ-loop
-loop-holds c = stored-none _ _ _
+loop-holds c = stored-none _ _ _ (omega arith)
 
 mul-start : tie.Need-mul-start Inv-loop μ-loop
 mul-start c = search needs
@@ -39,10 +32,10 @@ part-little-endian-end : tie.Need-part-little-endian-end Inv-loop μ-loop
 part-little-endian-end c = search needs
 
 little-endian-requires : tie.Need-little-endian-requires Inv-loop μ-loop
-little-endian-requires c κs = omega (arith, long c)
+little-endian-requires c κs = omega (arith, stored-next (c .before .before .loop .inv) (c .before .loop-test .taken))
 
 cast-words : tie.Need-cast-words Inv-loop μ-loop
-cast-words c = omega (arith, rw (long (c .before)) at (c .little-endian .ensures .1))
+cast-words c = omega (arith, rw (stored-next (c .before .before .before .loop .inv) (c .before .before .loop-test .taken)) at (c .little-endian .ensures .1))
 
 mul-words : tie.Need-mul-words Inv-loop μ-loop
 mul-words c = search needs
@@ -57,16 +50,13 @@ loop-less : tie.Need-loop-less Inv-loop μ-loop
 loop-less c = omega (arith, c .before .before .before .loop .inv .long)
 
 loop-again : tie.Need-loop-again Inv-loop μ-loop
-loop-again c =
-    stored-turn (c .before .before .before .loop .inv) (c .before .before .loop-test .taken) (c .little-endian .ensures .0 ∙ ap littleEndian (part-is 4 (c .before .before .before .before .before .before .args .bytes .now) (c .before .before .before .loop .i))) refl
+loop-again c = stored-turn (c .before .before .before .loop .inv) (c .before .before .loop-test .taken) (c .little-endian .ensures .0)
 
 same-length : tie.Need-same-length Inv-loop μ-loop
 same-length c = c .before .loop .inv .long
 
 returns : tie.Need-returns Inv-loop μ-loop
-returns c =
-    let room = c .before .before .before .before .pre in
-    stored-end (c .before .loop .inv) (omega (arith, c .loop-test .left, c .before .loop .inv .long)) (omega arith) (omega arith)
+returns c = stored-end (c .before .loop .inv) (omega (arith, c .loop-test .left, c .before .loop .inv .long))
 
 pub words32-spec : {M : Type 1} → statement M
 words32-spec =
