@@ -1,6 +1,6 @@
 //! The proved functions of the archive, behind safe wrappers.
 
-use crate::reference::{Choice, Intake, Outcome, Reply, Round, Verdict};
+use crate::reference::{Choice, Intake, Lift, Outcome, Reply, Round, Verdict};
 
 extern "C" {
     fn jengpilo_draw_below(
@@ -13,12 +13,8 @@ extern "C" {
     ) -> bool;
 
     fn jengpilo_round_select(
-        old: *const u64,
-        old_len: usize,
-        donor: *const u8,
-        donor_len: usize,
-        new: *const u64,
-        new_len: usize,
+        rows: *const u32,
+        rows_len: usize,
         donors: u8,
         first_sum: u64,
         second_sum: u64,
@@ -106,10 +102,7 @@ pub fn draw_below(words: &[u64], at: usize, bound: u64) -> Option<(u64, usize)> 
 /// The choice of one round, reading from position `at`.
 pub fn select(round: &Round, words: &[u64], at: usize) -> Option<Choice> {
     check_required(round);
-    let old: Vec<u64> = round.lifts.iter().map(|lift| lift.old_measure).collect();
-    let donor = |donor: Option<usize>| donor.map_or(0, |donor| donor as u8 + 1);
-    let donor: Vec<u8> = round.lifts.iter().map(|lift| donor(lift.donor)).collect();
-    let new: Vec<u64> = round.lifts.iter().map(|lift| lift.new_measure).collect();
+    let rows: Vec<u32> = round.lifts.iter().flat_map(row_of).collect();
     let (held, first_place, second_place) = match round.held {
         [None, None] => (0, 0, 0),
         [Some(place), None] | [None, Some(place)] => (1, place, 0),
@@ -120,12 +113,8 @@ pub fn select(round: &Round, words: &[u64], at: usize) -> Option<Choice> {
     // SAFETY: all slices and places live through the call, each length is its slice's, and what the call requires was checked.
     let found = unsafe {
         jengpilo_round_select(
-            old.as_ptr(),
-            old.len(),
-            donor.as_ptr(),
-            donor.len(),
-            new.as_ptr(),
-            new.len(),
+            rows.as_ptr(),
+            rows.len(),
             donors_of(round) as u8,
             round.old_sums[0],
             round.old_sums[1],
@@ -251,6 +240,18 @@ pub fn take_counts(sheet: &mut [u32], text: &[u8]) -> Intake {
             place: second,
         },
     }
+}
+
+/// A lift as a row: its number, which no choice depends on, its donor (1 or 2, 0 for none), its old and its new measure.
+fn row_of(lift: &Lift) -> [u32; 4] {
+    let measure = |measure| u32::try_from(measure).expect("a measure fits 32 bits");
+    let donor = lift.donor.map_or(0, |donor| donor as u32 + 1);
+    [
+        0,
+        donor,
+        measure(lift.old_measure),
+        measure(lift.new_measure),
+    ]
 }
 
 /// How many donors the round has.

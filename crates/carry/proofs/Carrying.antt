@@ -13,17 +13,18 @@ use Rattle.laws.specs.Plan.{done}
 use Rattle.laws.proofs.Lists.{All, all-map}
 use Rattle.draw.specs.Run.{run}
 use Rattle.round.specs.Choice.{selection, isHeld, outcome}
-use Rattle.round.specs.Share.{Initial, here, elsewhere, heldOf}
+use Rattle.laws.specs.Initial.{Initial, here, elsewhere}
+use Rattle.round.specs.Share.{heldOf}
 use Rattle.round.specs.declared.Held.the-variants.{Single}
 use Rattle.sheet.specs.Sheet.{Lift, lifts}
-use Rattle.sheet.specs.Rounds.{placeAt, inUse, donors, ofRound}
 use Rattle.sheet.specs.Refusal.{fits, verdict}
 use Rattle.sheet.specs.Reply.{replied}
 use Rattle.sheet.specs.Law.{Fit}
 use Rattle.sheet.specs.declared.Side.the-variants.{Old, New}
 use Rattle.sheet.proofs.Trips.{written-theorem}
 use Rattle.sheet.proofs.Verdicts.{decided, fits-sheet}
-use Rattle.selection.specs.Choice.{donorsOf, liftsOf, heldAt, heldIn, planOf, nobody, liftAt, Choice, chosen, panelFrom, panel, written, reply, output}
+use Rattle.sheet.specs.Rounds.{placeAt, inUse, donors, ofRound, heldAt}
+use Rattle.selection.specs.Choice.{donorsOf, liftsOf, heldIn, planOf, nobody, liftAt, Choice, chosen, panelFrom, panel, written, reply, output}
 use Rattle.selection.proofs.Held.{sheet-length, sheet-short}
 use Rattle.selection.proofs.Flags.{ofRound-all, sends-has, flagged}
 use Rattle.selection.proofs.Steps.{Steps, none, some, steps, steps-count}

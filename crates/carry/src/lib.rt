@@ -6,21 +6,23 @@ ghost use lib.Seq.{sets};
 ghost use Rattle.sheet.specs.Sheet.{mostRounds, oldKind, newKind, liftOf, lifts as liftsOfSheet, placeWord, sheetOf};
 ghost use Rattle.sheet.specs.Reading.{Legible};
 ghost use Rattle.sheet.specs.Rounds.{placeAt};
+ghost use Rattle.sheet.specs.Tables.{Tabled};
 ghost use Rattle.sheet.specs.Reply.{onto};
 ghost use Rattle.carry.specs.Next.{remaining as remainingOf, uncounted, carriedOn, inTable};
 ghost use Rattle.carry.specs.Writing.{wordsOn};
 use sheet::Field;
 use sheet::Sheet;
 use sheet::Side;
+use sheet::Tallies;
 
-// How many of a sheet's lifts have a new round.
-pub fn remaining(sheet: &[u32], lifts: usize) -> usize
+// How many of a sheet's lifts have a new round, from its tables.
+pub fn remaining(sheet: &[u32], t: Tallies) -> usize
     requires { ⌜ Legible (now sheet) ⌝ }
-    requires { ⌜ lifts ≡ length (liftsOfSheet (now sheet)) ⌝ }
+    requires { ⌜ Tabled (liftsOfSheet (now sheet)) t ⌝ }
     ensures { λ r. ⌜ r ≡ length (remainingOf (liftsOfSheet (now (sheet .entry)))) ⌝ }
 {
-    let counts = sheet::tally(sheet, Side::New, Field::Unit);
-    lifts - counts[0] as usize
+    let lifts = t.new_lifts;
+    sheet::size(sheet) - lifts[0] as usize
 }
 
 // The word of the old place of the lift at position i in the next quarter.

@@ -6,7 +6,7 @@ use mathlib.Core.List.{List}
 use Rattle.draw.specs.declared.Drawn.{Drawn}
 use Rattle.draw.specs.declared.Drawn.the-variants.{Value, Short}
 use Rattle.round.specs.Choice.{selected}
-use Rattle.round.specs.Slices.{Callable}
+use Rattle.round.specs.Rows.{Callable}
 use Rattle.round.specs.declared.Donors.{Donors}
 use Rattle.round.specs.declared.Held.{Held}
 use Rattle.round.specs.declared.Lift.{Lift}

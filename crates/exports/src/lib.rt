@@ -3,7 +3,7 @@ ghost use mathlib.Core.Path.{_≡_};
 ghost use lib.ListN.{length};
 ghost use Rattle.draw.specs.Draw.{largest, drawAt};
 ghost use Rattle.round.specs.Choice.{selected};
-ghost use Rattle.round.specs.Slices.{lifts, Level, Callable};
+ghost use Rattle.round.specs.Rows.{lifts, Callable};
 ghost use Rattle.sheet.specs.Refusal.{verdict};
 ghost use Rattle.sheet.specs.Reply.{numbers};
 ghost use Rattle.counts.specs.Counts.{reply as countsReply, output as countsOutput};
@@ -70,9 +70,7 @@ fn held_of(count: u8, i: usize, j: usize) -> Held
 // `round::select`: true, the place, the outcome and the next position written; or false, nothing written, where the words end.
 #[no_mangle]
 pub extern "C" fn jengpilo_round_select(
-    old: &[u64],
-    donor: &[u8],
-    new: &[u64],
+    rows: &[u32],
     donors: u8,
     t1: u64,
     t2: u64,
@@ -85,14 +83,11 @@ pub extern "C" fn jengpilo_round_select(
     outcome: &mut u32,
     next: &mut usize,
 ) -> bool
-    requires { ⌜ Level (now old) (now donor) (now new) ⌝ }
-    requires { ⌜ Callable (donorsOf donors t1 t2) (lifts (now old) (now donor) (now new)) (heldOf held i j) ⌝ }
-    ensures { λ r. ⌜ Chose (selected (donorsOf donors t1 t2) (lifts (now (old .entry)) (now (donor .entry)) (now (new .entry))) (heldOf held i j) (now (words .entry)) at) r (now (place .entry)) (now (place .exit)) (now (outcome .entry)) (now (outcome .exit)) (now (next .entry)) (now (next .exit)) ⌝ }
+    requires { ⌜ Callable (donorsOf donors t1 t2) (lifts (now rows)) (heldOf held i j) ⌝ }
+    ensures { λ r. ⌜ Chose (selected (donorsOf donors t1 t2) (lifts (now (rows .entry))) (heldOf held i j) (now (words .entry)) at) r (now (place .entry)) (now (place .exit)) (now (outcome .entry)) (now (outcome .exit)) (now (next .entry)) (now (next .exit)) ⌝ }
 {
     let selected = round::select(
-        old,
-        donor,
-        new,
+        rows,
         donors_of(donors, t1, t2),
         held_of(held, i, j),
         words,

@@ -5,3 +5,4 @@ pub mod Plan
 pub mod Same
 pub mod Among
 pub mod Pieces
+pub mod Initial

@@ -18,7 +18,7 @@ use Rattle.sheet.proofs.Verdicts.{decided}
 use Rattle.sheet.specs.declared.Side.the-variants.{New}
 use Rattle.selection.specs.Choice.{Choice, Panel, chosen, short, panel, ofPanel, unlessLacking, ofLent, reply, written, writtenOf, output}
 use Rattle.selection.proofs.Steps.{Steps, steps, steps-count}
-use Rattle.panel.specs.Slices.{Gathers, Picked, pairs, PairsFit, toldBy, writtenBy}
+use Rattle.panel.specs.Choosing.{Gathers, Picked, pairs, PairsFit, toldBy, writtenBy}
 use Rattle.panel.specs.declared.Picks.{Picks}
 use Rattle.panel.proofs.Tabled.{Rises, steps-rise, tabled-each, pairs-tabled, length-written, written-behind}
 
@@ -45,12 +45,12 @@ module _ (ls : List Lift) (ws : List ℕ) (start : ℕ) (p : Picks) (d : Picked 
   onward z = let x = done z in omega (arith, x .gathers .next, steps-count (x .steps) .1)
 
   -- the reply is the panel's
-  pub told-panel : toldBy p start ≡ ofPanel start (panel ls ws start)
-  told-panel = go (panel ls ws start) d
+  pub told-panel : toldBy p (length (inUse New ls)) start ≡ ofPanel start (panel ls ws start)
+  told-panel = go (panel ls ws start) refl d
     where
-      go : (x : Panel) → Picked x p → toldBy p start ≡ ofPanel start x
-      go (chosen cs next) g = rw (eq-eqb (p .short) 0 (g .finished), g .count, g .next)
-      go (short r) g = rw (ne-eqb (p .short) 0 (λ z. omega (arith, g .0, g .1)), g .1)
+      go : (x : Panel) → panel ls ws start ≡ x → Picked x p → toldBy p (length (inUse New ls)) start ≡ ofPanel start x
+      go (chosen cs next) e g = rw (eq-eqb (p .short) 0 (g .finished), ← steps-count (steps ls ws start (inUse New ls) e) .0, g .next)
+      go (short r) e g = rw (ne-eqb (p .short) 0 (λ z. omega (arith, g .0, g .1)), g .1)
 
   module _ (f : Fit ls) where
     -- the choices' rounds rise
@@ -67,7 +67,7 @@ module _ (ls : List Lift) (ws : List ℕ) (start : ℕ) (p : Picks) (d : Picked 
         let r = rise (x .steps) in
         record {
           few = rw (pairs-are (x .gathers) (x .steps), length-written (x .choices)) (omega (arith, steps-count (x .steps) .0));
-          numbers = record { each = rw (x .gathers .numbers) (tabled-each (λ v. v < 2 ^ 28) (λ c. c .number) (λ c s. s .number) (omega arith) (x .choices) r) };
+          numbers = rw (x .gathers .numbers) (tabled-each (λ v. v < 2 ^ 28) (λ c. c .number) (λ c s. s .number) (omega arith) (x .choices) r);
           outcomes = rw (x .gathers .outcomes) (tabled-each (λ v. v ≤ 3) (λ c. c .outcome) (λ c s. s .most) (omega arith) (x .choices) r);
         }
 
@@ -127,12 +127,15 @@ module _ (n words start room : ℕ) where
       go false p false q f = (ltb-false words start p, ltb-false room (2 * n) q)
 
 -- where the lists that were lent suffice, both are the panel's
-pub through : (ls : List Lift) (ws : List ℕ) (start : ℕ) (out : List ℕ) (n : ℕ) → (start ≤ length ws) × (2 * n ≤ length out)
-    → (p : Picks) → Picked (panel ls ws start) p → Fit ls → {y : Reply} {out′ : List ℕ} → y ≡ toldBy p start → out′ ≡ writtenBy p out
-    → (y ≡ ofLent ls n ws start (length out)) × (out′ ≡ unlessRefused (ofLent ls n ws start (length out)) out (writtenOf (panel ls ws start) out))
-through ls ws start out n a p d f e g =
+pub through : (ls : List Lift) (ws : List ℕ) (start : ℕ) (out : List ℕ) {n : ℕ} → n ≡ length (inUse New ls) → (start ≤ length ws) × (2 * n ≤ length out)
+    → (p : Picks) → Picked (panel ls ws start) p → Fit ls → {y : Reply} {out′ : List ℕ} → y ≡ toldBy p n start → out′ ≡ writtenBy p out
+    → (y ≡ ofLent ls (length (inUse New ls)) ws start (length out))
+    × (out′ ≡ unlessRefused (ofLent ls (length (inUse New ls)) ws start (length out)) out (writtenOf (panel ls ws start) out))
+through ls ws start out q b p d f c g =
     let x = panel ls ws start in
-    rw (← enough n (length ws) start (length out) (a .0) (ofPanel start x) (a .1)) (e ∙ told-panel ls ws start p d, g ∙ written-panel ls ws start p d f out ∙ left-panel start x out)
+    let a = rw q at b in
+    let e = rw q at c in
+    rw (← enough (length (inUse New ls)) (length ws) start (length out) (a .0) (ofPanel start x) (a .1)) (e ∙ told-panel ls ws start p d, g ∙ written-panel ls ws start p d f out ∙ left-panel start x out)
 
 -- ---- the whole sheet
 

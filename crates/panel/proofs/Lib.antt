@@ -1,6 +1,5 @@
-pub mod Lending
+pub mod Rounds
 pub mod Choosing
-pub mod Gathering
 pub mod Tabled
 pub mod Pairs
 pub mod Answers

@@ -18,7 +18,7 @@ use Rattle.selection.proofs.Steps.{steps}
 use Rattle.carry.specs.Next.{remaining, nextLifts, wordsNeeded}
 use Rattle.carry.specs.Reply.{ofLentNext, replyNext, outputNext, carriedTo, lentSheet}
 use Rattle.carry.proofs.Carrying.{carries}
-use Rattle.panel.specs.Slices.{Gathers, Picked, toldBy, writtenBy, sheetBy, carriedBy}
+use Rattle.panel.specs.Choosing.{Gathers, Picked, toldBy, writtenBy, sheetBy, carriedBy}
 use Rattle.panel.specs.declared.Picks.{Picks}
 use Rattle.panel.proofs.Answers.{told-panel, rise, written-panel, left, left-panel, enough}
 use Rattle.panel.proofs.Carried.{table-next}
@@ -54,12 +54,17 @@ left-next start (chosen cs n) ls next = refl
 left-next start (short r) ls next = refl
 
 -- where the words and the output suffice, and m lifts remain
-module _ (ls : List Lift) (ws : List ℕ) (start : ℕ) (out next : List ℕ) (n m : ℕ) (a : (start ≤ length ws) × (2 * n ≤ length out)) (e : m ≡ length (remaining ls)) where
+module _ (ls : List Lift) (ws : List ℕ) (start : ℕ) (out next : List ℕ) (m : ℕ) (a : (start ≤ length ws) × (2 * length (inUse New ls) ≤ length out))
+    (e : m ≡ length (remaining ls)) where
+  -- how many new rounds there are
+  abbrev n : ℕ
+  n = length (inUse New ls)
+
   pub cramped : length next < 3 * m + n + 1 → ofRefusal (numbered 17 (3 * m + n + 1)) ≡ ofLentNext ls n ws start (length out) (length next)
   cramped h = rw (← enough n (length ws) start (length out) (a .0) _ (a .1), ← e, lt-ltb (length next) (3 * m + n + 1) h)
 
   pub through-next : 3 * m + n + 1 ≤ length next → (p : Picks) → Picked (panel ls ws start) p → Fit ls → {y : Reply} {out′ next′ : List ℕ}
-      → y ≡ toldBy p start → out′ ≡ writtenBy p out → next′ ≡ carriedBy p ls next
+      → y ≡ toldBy p n start → out′ ≡ writtenBy p out → next′ ≡ carriedBy p ls next
       → (y ≡ ofLentNext ls n ws start (length out) (length next))
       × ((out′ ≡ unlessRefused (ofLentNext ls n ws start (length out) (length next)) out (writtenOf (panel ls ws start) out))
       × (next′ ≡ unlessRefused (ofLentNext ls n ws start (length out) (length next)) next (carriedTo (panel ls ws start) ls next)))

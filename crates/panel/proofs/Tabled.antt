@@ -6,23 +6,31 @@ use mathlib.Core.Bool.{Bool, true, false, cond}
 use mathlib.Core.List.{List, [], _∷_, _++_}
 use native.Mathlib.Omega.{arith}
 use lib.Dec.{eqb}
-use lib.ListN.{length, getD, set, drop, replicate, length-set, List·getD-map}
+use lib.ListN.{length, getD, set, drop, replicate, length-set}
 use lib.Seq.{getD-set-same, getD-set-other, drop-drop}
 use borrow.Author.Tests.{ne-eqb, eqb-true, eqb-false}
 use Rattle.round.specs.Choice.{Selection, isHeld, outcome}
 use Rattle.round.specs.declared.Held.{Held}
 use Rattle.sheet.specs.Sheet.{mostRounds, Lift}
 use Rattle.sheet.specs.Rounds.{ofRound}
-use Rattle.sheet.specs.Tables.{fieldOf}
 use Rattle.sheet.specs.Law.{Listed}
-use Rattle.sheet.specs.declared.Field.the-variants.{Number}
 use Rattle.sheet.proofs.Those.{Rising}
 use Rattle.selection.specs.Choice.{heldIn, liftAt, nobody, Choice, byRound, pair, written}
 use Rattle.selection.proofs.Steps.{Steps, none, some}
-use Rattle.panel.specs.Slices.{pairsFrom, pairs}
-use Rattle.panel.proofs.Gathering.{numbers-small}
+use Rattle.panel.specs.Choosing.{pairsFrom, pairs}
 
 -- ---- what is chosen
+
+-- lift numbers have room in a word's payload
+number-small : (n r : ℕ) (ls : List Lift) → Listed n ls → (i : ℕ) → getD (ofRound r ls) i nobody .number < 2 ^ 28
+unfolding ofRound Listed
+number-small n r [] d i = omega arith
+number-small n r (l ∷ ls) d i = go (eqb (l .new .round) r) i (number-small (l .number) r ls (d .1))
+  where
+    go : (t : Bool) (i : ℕ) → ((k : ℕ) → getD (ofRound r ls) k nobody .number < 2 ^ 28) → getD (cond t (l ∷ ofRound r ls) (ofRound r ls)) i nobody .number < 2 ^ 28
+    go true zero ih = d .0 .payload
+    go true (suc i) ih = ih i
+    go false i ih = ih i
 
 -- an outcome is 1, 2 or 3
 outcome-between : (h : Held) (s : Selection) → (1 ≤ outcome h s) × (outcome h s ≤ 3)
@@ -56,7 +64,7 @@ steps-rise {ls} d (some {r = r} {s = s} q rest) a k =
       k .0,
       record {
         upto = k .1;
-        number = rw (← List·getD-map (fieldOf Number) (ofRound r ls) (s .place) nobody) (numbers-small 0 r ls d (s .place));
+        number = number-small 0 r ls d (s .place);
         some = o .0;
         most = o .1;
       },

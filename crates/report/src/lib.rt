@@ -6,7 +6,7 @@ ghost use Prim.Native.Nat.{_+_, _*_, _/_, _^_, _≤_, _<_, min};
 ghost use lib.ListN.{length, take};
 ghost use Rattle.sheet.specs.Sheet.{longest};
 ghost use Rattle.sheet.specs.Reading.{numbered};
-ghost use Rattle.panel.specs.Slices.{told};
+ghost use Rattle.panel.specs.Choosing.{told};
 ghost use Rattle.report.specs.Report.{littleEndian, wordsOf, mostWords, sheetWords, randomWords, decimal, field, line as lineOf, pairLines, wordsLine, refusedLine, textOf, report as reportOf, printedWords, textRoom, Ready, Decoded, Appended};
 use panel::Answer;
 use sheet::Sheet;

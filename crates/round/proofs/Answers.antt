@@ -12,7 +12,7 @@ use Rattle.draw.specs.declared.Drawn.{Drawn}
 use Rattle.draw.specs.declared.Drawn.the-variants.{Value, Short as Ended}
 use Rattle.round.specs.Round.{Weight, growth, G}
 use Rattle.round.specs.Choice.{Selection, selection, stayOr, replacement, keyfitz, plan, outcome, answer}
-use Rattle.round.specs.Slices.{scaled, scaleOf, wholly, drawGrowth}
+use Rattle.round.specs.Rows.{scaled, scaleOf, wholly, drawGrowth}
 use Rattle.round.specs.declared.Donors.{Donors}
 use Rattle.round.specs.declared.Held.{Held}
 use Rattle.round.specs.declared.Held.the-variants.{Neither, Single, Both}

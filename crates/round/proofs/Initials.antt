@@ -11,7 +11,8 @@ use Rattle.laws.proofs.Sums.{Σ-mul, Σ-map}
 use Rattle.laws.proofs.Fractions.{≈-refl, ≈-sym, ≈-trans, ≈-num, ⊕-≈, ⊕-same, ⊗-≈, ⊗-assoc, ⊗-distrib-right, sum-≈, sum-den, sum-same, sum-add, sum-part, sum-mix}
 use Rattle.round.proofs.Weights.{U-sum}
 use Rattle.round.specs.Round.{liftAt, sent, U, Sends, Donate}
-use Rattle.round.specs.Share.{Initial, here, elsewhere, heldOf, overInitial, overHeld}
+use Rattle.laws.specs.Initial.{Initial, here, elsewhere}
+use Rattle.round.specs.Share.{heldOf, overInitial, overHeld}
 use Rattle.round.specs.declared.Donors.{Donors}
 use Rattle.round.specs.declared.Donors.the-variants.{None, One, Two}
 use Rattle.round.specs.declared.Held.{Held}

@@ -14,7 +14,7 @@ use Rattle.laws.proofs.Fractions.{pos-left}
 use Rattle.laws.proofs.Masses.{every-map}
 use Rattle.round.specs.Round.{liftAt, S, D, Weight, oldWeight, newWeight, weights, weightAt, Fitting}
 use Rattle.round.specs.Choice.{Preliminary, noUnit, unitAt, fresh, firstOdds, preliminary, stayOr, replacement, keyfitz, select, plan}
-use Rattle.round.specs.Slices.{Bounded, Stands}
+use Rattle.round.specs.Rows.{Bounded, Stands}
 use Rattle.round.specs.Law.{Small, Weighty, LawsTheorem}
 use Rattle.round.specs.declared.Donors.{Donors}
 use Rattle.round.specs.declared.Donors.the-variants.{None, One, Two}

@@ -1,5 +1,5 @@
--- The loops over a round lent as slices: each keeps what it has together with what is left of the round.
-use Prim.Native.Nat.{ℕ, zero, suc, _+_, _*_, _-_, _^_, _≤_, _<_}
+-- The loops over a round lent as rows: each keeps what it has together with what is left of the round.
+use Prim.Native.Nat.{ℕ, suc, _+_, _*_, _-_, _/_, _^_, _≤_, _<_}
 use mathlib.Core.Path.{_≡_, refl, sym, ap, ap₂, _∙_}
 use mathlib.Core.Bool.{Bool, true, false}
 use mathlib.Core.List.{List, [], _∷_, map, map-map}
@@ -14,38 +14,38 @@ use mir.Val.{Fits}
 use mir.Syntax.{w64}
 use Rattle.laws.specs.Sum.{total}
 use Rattle.laws.specs.Interval.{pick}
+use Rattle.laws.specs.Pieces.{pieces}
 use Rattle.laws.proofs.Sums.{total-map, total-cut, map-le}
 use Rattle.laws.proofs.Intervals.{pick-here, pick-beyond, pick-within, pick-past, pick-lt}
-use Rattle.round.specs.Round.{liftAt, sent, U, Weight, weightAt, growth, G}
-use Rattle.round.specs.Slices.{lift, lifts, Level, multiplierOf, scaled, Room, LiftRoom, Balanced, blockLength, blockEnd, between}
+use Rattle.laws.proofs.Pieces.{length-pieces, piece-inside, piece-element}
+use Rattle.round.specs.Round.{liftAt, S, sent, U, Weight, weightAt, growth, G}
+use Rattle.round.specs.Rows.{lift, rowLength, liftOf, lifts, capacity, sumsOf, Small, multiplierOf, scaled, Room, LiftRoom, Balanced, blockLength, blockEnd, between}
 use Rattle.round.specs.declared.Lift.{Lift}
 use Rattle.round.specs.declared.Scale.{Scale}
 use Rattle.round.proofs.Weights.{U-sum, dropped-G, G-le}
 
--- ---- the lifts of the slices
+-- ---- the lifts of the rows
 
-tail : {m d b : ℕ} {ms ds bs : List ℕ} → Level (m ∷ ms) (d ∷ ds) (b ∷ bs) → Level ms ds bs
-tail l = record { donors = omega (arith, l .donors); news = omega (arith, l .news) }
-
-pub lifts-length : {ms ds bs : List ℕ} → Level ms ds bs → length (lifts ms ds bs) ≡ length ms
+pub lifts-length : (rows : List ℕ) → length (lifts rows) ≡ length rows / rowLength
 unfolding lifts
-lifts-length {ms = []} l = refl
-lifts-length {ms = m ∷ ms} {ds = []} l = omega (arith, l .donors)
-lifts-length {ms = m ∷ ms} {ds = d ∷ ds} {bs = []} l = omega (arith, l .news)
-lifts-length {ms = m ∷ ms} {ds = d ∷ ds} {bs = b ∷ bs} l = ap suc (lifts-length (tail l))
+lifts-length rows = rw length-map (length-pieces rowLength rows)
 
-pub read-lift : {ms ds bs : List ℕ} → Level ms ds bs → (i : ℕ) → i < length ms → lift (getD ms i 0) (getD ds i 0) (getD bs i 0) ≡ liftAt (lifts ms ds bs) i
+-- the row of a lift stands in the rows
+pub row-inside : (rows : List ℕ) {i : ℕ} → i < length (lifts rows) → rowLength * i + rowLength ≤ length rows
+row-inside rows {i} h = piece-inside rowLength rows i (rw lifts-length at h)
+
+pub read-lift : (rows : List ℕ) {i : ℕ} → i < length (lifts rows)
+    → lift (getD rows (rowLength * i + 2) 0) (getD rows (rowLength * i + 1) 0) (getD rows (rowLength * i + 3) 0) ≡ liftAt (lifts rows) i
 unfolding lifts
-read-lift {ms = []} l i h = absurd (omega arith)
-read-lift {ms = m ∷ ms} {ds = []} l i h = absurd (omega (arith, l .donors))
-read-lift {ms = m ∷ ms} {ds = d ∷ ds} {bs = []} l i h = absurd (omega (arith, l .news))
-read-lift {ms = m ∷ ms} {ds = d ∷ ds} {bs = b ∷ bs} l zero h = refl
-read-lift {ms = m ∷ ms} {ds = d ∷ ds} {bs = b ∷ bs} l (suc i) h = read-lift (tail l) i (omega arith)
+read-lift rows {i} h =
+    let l = rw (lifts-length rows) at h in
+    let number : (j : ℕ) → j < rowLength → getD (getD (pieces rowLength rows) i []) j 0 ≡ getD rows (rowLength * i + j) 0 = λ j u. piece-element rowLength rows i j 0 l u in
+    rw (List·getD-map liftOf (pieces rowLength rows) i [], number 2 (omega arith), number 1 (omega arith), number 3 (omega arith))
 
 -- ---- the lifts from place i up to place e
 
-all-between : {ms ds bs : List ℕ} → Level ms ds bs → between 0 (length ms) (lifts ms ds bs) ≡ lifts ms ds bs
-all-between {ms} {ds} {bs} l = take-all (length ms - 0) (lifts ms ds bs) (omega (arith, lifts-length l))
+all-between : (ls : List Lift) → between 0 (length ls) ls ≡ ls
+all-between ls = take-all (length ls - 0) ls (omega arith)
 
 between-cons : (ls : List Lift) (i e : ℕ) → i < e → i < length ls → between i e ls ≡ liftAt ls i ∷ between (i + 1) e ls
 between-cons ls i e u h =
@@ -59,21 +59,58 @@ pub record Summed (f : Lift → ℕ) (ls : List Lift) (e whole sum i : ℕ) : Ty
 sum-none : {f : Lift → ℕ} {ls : List Lift} {a e whole : ℕ} → total (map f (between a e ls)) ≡ whole → Summed f ls e whole 0 a
 sum-none t = record { same = omega arith }
 
-module _ {f : Lift → ℕ} {ms ds bs : List ℕ} {e i w : ℕ} {x : Lift} (l : Level ms ds bs) (n : e ≤ length ms) (h : i < e) (r : x ≡ liftAt (lifts ms ds bs) i) (t : w ≡ f x) where
-  pub sum-turn : {whole sum : ℕ} → Summed f (lifts ms ds bs) e whole sum i → Summed f (lifts ms ds bs) e whole (sum + w) (i + 1)
+module _ {f : Lift → ℕ} {ls : List Lift} {e i w : ℕ} {x : Lift} (n : e ≤ length ls) (h : i < e) (r : x ≡ liftAt ls i) (t : w ≡ f x) where
+  pub sum-turn : {whole sum : ℕ} → Summed f ls e whole sum i → Summed f ls e whole (sum + w) (i + 1)
   unfolding total
-  sum-turn d =
-      record { same = omega (arith, rw r at t, rw (between-cons (lifts ms ds bs) i e h (omega (arith, lifts-length l))) at (d .same)) }
+  sum-turn d = record { same = omega (arith, rw r at t, rw (between-cons ls i e h (omega arith)) at (d .same)) }
 
-  pub sum-fits : {whole sum : ℕ} → Summed f (lifts ms ds bs) e whole sum i → whole ≤ 2 ^ 61 → Fits w64 (sum + w)
+  pub sum-fits : {whole sum : ℕ} → Summed f ls e whole sum i → whole ≤ 2 ^ 61 → Fits w64 (sum + w)
   sum-fits d r = omega (arith, sum-turn d .same)
 
 pub sum-end : {f : Lift → ℕ} {ls : List Lift} {e i whole sum : ℕ} → e ≤ i → Summed f ls e whole sum i → sum ≡ whole
 unfolding total
 sum-end {e} {i} h d = let none : e - i ≡ 0 = omega arith in omega (arith, rw none at (d .same))
 
-pub came-none : (k : ℕ) {ms ds bs : List ℕ} → Level ms ds bs → Summed (sent k) (lifts ms ds bs) (length ms) (U k (lifts ms ds bs)) 0 0
-came-none k l = sum-none (rw (all-between l, U-sum))
+-- ---- the sums of the round, in one walk
+
+-- each of the three sums
+pub record Walked (k : ℕ) (ls : List Lift) (new first last i : ℕ) : Type 0 where
+  pub news : Summed (λ l. l .new) ls (length ls) (S ls) new i
+  pub firsts : Summed (sent 1) ls (length ls) (U 1 ls) first i
+  pub lasts : Summed (sent k) ls (length ls) (U k ls) last i
+
+pub walk-none : (k : ℕ) (ls : List Lift) → Walked k ls 0 0 0 0
+unfolding S
+walk-none k ls = record { news = sum-none (rw (all-between ls)); firsts = came 1; lasts = came k }
+  where
+    came : (d : ℕ) → Summed (sent d) ls (length ls) (U d ls) 0 0
+    came d = sum-none (rw (all-between ls, U-sum))
+
+module _ {k : ℕ} {ls : List Lift} {n new first last i : ℕ} {x : Lift} (c : n ≡ length ls) (h : i < n) (r : x ≡ liftAt ls i) (d : Walked k ls new first last i) where
+  -- by one lift
+  adds : {f : Lift → ℕ} {whole sum w : ℕ} → w ≡ f x → Summed f ls (length ls) whole sum i → Summed f ls (length ls) whole (sum + w) (i + 1)
+  adds t u = sum-turn (le-refl _) (omega arith) r t u
+
+  fits : {f : Lift → ℕ} {whole sum w : ℕ} → whole ≤ capacity → w ≡ f x → Summed f ls (length ls) whole sum i → Fits w64 (sum + w)
+  fits s t u = sum-fits (le-refl _) (omega arith) r t u (omega arith)
+
+  pub walk-turn : {f g : ℕ} → f ≡ sent 1 x → g ≡ sent k x → Walked k ls (new + x .new) (first + f) (last + g) (i + 1)
+  walk-turn p q = record { news = adds refl (d .news); firsts = adds p (d .firsts); lasts = adds q (d .lasts) }
+
+  pub new-fit : Small (sumsOf k ls) → Fits w64 (new + x .new)
+  new-fit s = fits (s .new) refl (d .news)
+
+  pub first-fit : {w : ℕ} → Small (sumsOf k ls) → w ≡ sent 1 x → Fits w64 (first + w)
+  first-fit s p = fits (s .first) p (d .firsts)
+
+  pub last-fit : {w : ℕ} → Small (sumsOf k ls) → w ≡ sent k x → Fits w64 (last + w)
+  last-fit s p = fits (s .last) p (d .lasts)
+
+pub walk-end : {k : ℕ} {ls : List Lift} {n new first last i : ℕ} → n ≡ length ls → n ≤ i → Walked k ls new first last i
+    → record { new = new; first = first; last = last } ≡ sumsOf k ls
+walk-end {ls} {i} c h d =
+    let past : length ls ≤ i = omega arith in
+    rw (sum-end past (d .news), sum-end past (d .firsts), sum-end past (d .lasts))
 
 -- ---- the lifts of a block, gathered in an array
 
@@ -87,13 +124,12 @@ pub record Gathered (ls block : List Lift) (a e i : ℕ) : Type 0 where
 pub gather-none : {ls block : List Lift} {a e : ℕ} → a ≤ e → length block ≡ blockLength → Gathered ls block a e a
 gather-none {a} h n = record { from = le-refl a; upto = h; long = n; same = rw (sub-self a) }
 
-pub gather-turn : {ms ds bs : List ℕ} {block : List Lift} {x : Lift} {a e i : ℕ} → Level ms ds bs → e ≤ length ms → e - a ≤ blockLength → i < e → x ≡ liftAt (lifts ms ds bs) i
-    → Gathered (lifts ms ds bs) block a e i → Gathered (lifts ms ds bs) (set block (i - a) x) a e (i + 1)
-gather-turn {ms} {ds} {bs} {block} {x} {a} {i} l n k h r g =
-    let ls = lifts ms ds bs in
+pub gather-turn : {ls block : List Lift} {x : Lift} {a e i : ℕ} → e ≤ length ls → e - a ≤ blockLength → i < e → x ≡ liftAt ls i
+    → Gathered ls block a e i → Gathered ls (set block (i - a) x) a e (i + 1)
+gather-turn {ls} {block} {x} {a} {i} n k h r g =
     let next : i + 1 - a ≡ suc (i - a) = omega (arith, g .from) in
     let here : a + (i - a) ≡ i = omega (arith, g .from) in
-    let inside : i - a < length (drop a ls) = omega (arith, length-drop a ls, lifts-length l, g .from) in record {
+    let inside : i - a < length (drop a ls) = omega (arith, length-drop a ls, g .from) in record {
       from = omega (arith, g .from);
       upto = omega arith;
       long = rw length-set (g .long);
@@ -140,14 +176,14 @@ pub reach-none : (s : Scale) (a e : ℕ) (ls : List Lift) → Summed (grows s) l
 unfolding G
 reach-none s a e ls = sum-none (ap total (grows-map s (between a e ls)))
 
-pub reach-all : (s : Scale) {ms ds bs : List ℕ} {sum : ℕ} → Level ms ds bs → sum ≡ G (map (scaled s) (between 0 (length ms) (lifts ms ds bs))) → sum ≡ G (map (scaled s) (lifts ms ds bs))
-reach-all s l e = rw (← all-between l) e
+pub reach-all : (s : Scale) (ls : List Lift) {n sum : ℕ} → n ≡ length ls → sum ≡ G (map (scaled s) (between 0 n ls)) → sum ≡ G (map (scaled s) ls)
+reach-all s ls c e = rw (c, all-between ls) at e
 
 pub pick-none : (s : Scale) (ls : List Lift) (q : ℕ) → Sought (grows s) ls (pick (map growth (map (scaled s) ls)) q) q 0
 pick-none s ls q = seek-none (ap (λ ns. pick ns q) (grows-map s ls))
 
-pub pick-end : {f : Lift → ℕ} {ms ds bs : List ℕ} {i place left : ℕ} → Level ms ds bs → length ms ≤ i → Sought f (lifts ms ds bs) place left i → i ≡ place
-pick-end l h d = seek-end (rw (lifts-length l) h) d
+pub pick-end : {f : Lift → ℕ} {ls : List Lift} {n i place left : ℕ} → n ≡ length ls → n ≤ i → Sought f ls place left i → i ≡ place
+pick-end c h d = seek-end (rw c at h) d
 
 -- ---- the search by blocks
 
@@ -169,40 +205,36 @@ module _ {n i e : ℕ} (b : e ≡ blockEnd i n) (h : i < n) where
   pub block-from : i ≤ e
   block-from = omega (arith, ends .0)
 
-  pub block-inside : e ≤ n
-  block-inside = ends .1 .0
+  pub block-inside : {m : ℕ} → n ≡ m → e ≤ m
+  block-inside l = omega (arith, ends .1 .0)
 
   pub block-short : e - i ≤ blockLength
   block-short = ends .1 .1
 
-module _ (s : Scale) {ms ds bs : List ℕ} {i e w : ℕ} (l : Level ms ds bs) (h : i < length ms) (b : e ≡ blockEnd i (length ms)) (t : w ≡ G (map (scaled s) (between i e (lifts ms ds bs)))) where
-  sums : w ≡ total (map (grows s) (between i e (lifts ms ds bs)))
+module _ (s : Scale) (ls : List Lift) {n i e w : ℕ} (c : n ≡ length ls) (h : i < n) (b : e ≡ blockEnd i n) (t : w ≡ G (map (scaled s) (between i e ls))) where
+  sums : w ≡ total (map (grows s) (between i e ls))
   unfolding G
-  sums = t ∙ ap total (sym (grows-map s (between i e (lifts ms ds bs))))
+  sums = t ∙ ap total (sym (grows-map s (between i e ls)))
 
-  block-long : e - i ≤ length (drop i (lifts ms ds bs))
-  block-long = omega (arith, length-drop i (lifts ms ds bs), lifts-length l, block-inside b h)
+  block-long : e - i ≤ length (drop i ls)
+  block-long = omega (arith, length-drop i ls, block-inside b h c)
 
   -- the position falls behind the block
-  pub block-turn : {place left : ℕ} → w ≤ left → Sought (grows s) (lifts ms ds bs) place left i → Sought (grows s) (lifts ms ds bs) place (left - w) e
+  pub block-turn : {place left : ℕ} → w ≤ left → Sought (grows s) ls place left i → Sought (grows s) ls place (left - w) e
   block-turn {left} k d =
-      let ls = lifts ms ds bs in
       let to : i + (e - i) ≡ e = omega (arith, block-rises b h) in
       record { same = omega (arith, to, rw (pick-past (grows s) (e - i) (drop i ls) left block-long (rw sums at k), ← sums, drop-drop (e - i) i ls, to) at (d .same)) }
 
   -- it falls in the block
-  pub block-fits : {left p : ℕ} {us : List Lift} → left < w → us ≡ between i e (lifts ms ds bs) → p ≡ pick (map growth (map (scaled s) us)) left → length ms < 2 ^ 64 → Fits w64 (i + p)
+  pub block-fits : {left p : ℕ} {us : List Lift} → left < w → us ≡ between i e ls → p ≡ pick (map growth (map (scaled s) us)) left → n < 2 ^ 64 → Fits w64 (i + p)
   unfolding G
-  block-fits {left} {p} {us} k r x n =
-      let ls = lifts ms ds bs in
+  block-fits {left} {p} {us} k r x m =
       let inside = rw (← x, length-map, length-map) at (pick-lt (map growth (map (scaled s) us)) left (rw (r, ← t) k)) in
-      omega (arith, inside, ap length r, length-take-le (e - i) (drop i ls) block-long, block-rises b h, block-inside b h)
+      omega (arith, inside, ap length r, length-take-le (e - i) (drop i ls) block-long, block-rises b h, block-inside b h c)
 
-  pub block-here : {place left p : ℕ} {us : List Lift} → left < w → us ≡ between i e (lifts ms ds bs) → p ≡ pick (map growth (map (scaled s) us)) left
-      → Sought (grows s) (lifts ms ds bs) place left i → i + p ≡ place
-  block-here {left} k r x d =
-      let ls = lifts ms ds bs in
-      rw (x, r, ← grows-map s (between i e ls), ← pick-within (grows s) (e - i) (drop i ls) left (rw sums at k)) (d .same)
+  pub block-here : {place left p : ℕ} {us : List Lift} → left < w → us ≡ between i e ls → p ≡ pick (map growth (map (scaled s) us)) left
+      → Sought (grows s) ls place left i → i + p ≡ place
+  block-here {left} k r x d = rw (x, r, ← grows-map s (between i e ls), ← pick-within (grows s) (e - i) (drop i ls) left (rw sums at k)) (d .same)
 
 -- ---- room
 
@@ -228,8 +260,8 @@ G-room {s} {ls} a e r =
     let us = between a e ls in
     omega (arith, G-le (map (scaled s) us), total-map (scaled s) (λ w. w .new) us, block-room a e refl r .news)
 
-pub read-room : {s : Scale} {ms ds bs : List ℕ} {x : Lift} {i e : ℕ} → Level ms ds bs → e ≤ length ms → i < e → x ≡ liftAt (lifts ms ds bs) i → Room s (lifts ms ds bs) → LiftRoom s x
-read-room l n h t r = rw t (lift-room r (omega (arith, lifts-length l)))
+pub read-room : {s : Scale} {ls : List Lift} {x : Lift} {i e : ℕ} → e ≤ length ls → i < e → x ≡ liftAt ls i → Room s ls → LiftRoom s x
+read-room n h t r = rw t (lift-room r (omega arith))
 
 -- ---- the weights of the lift at i
 

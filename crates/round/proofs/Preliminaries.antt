@@ -16,7 +16,8 @@ use Rattle.laws.proofs.Fractions.{≈-refl, ≈-trans, ≈-num}
 use Rattle.laws.proofs.Masses.{mass-even}
 use Rattle.round.specs.Round.{liftAt, S, sent, U, D, oldWeight, Sends}
 use Rattle.round.specs.Choice.{Preliminary, noUnit, unitAt, preliminary, firstOdds}
-use Rattle.round.specs.Share.{here, elsewhere, heldOf, overInitial, overHeld}
+use Rattle.laws.specs.Initial.{here, elsewhere}
+use Rattle.round.specs.Share.{heldOf, overInitial, overHeld}
 use Rattle.round.specs.declared.Donors.{Donors}
 use Rattle.round.specs.declared.Donors.the-variants.{One, Two}
 use Rattle.round.specs.declared.Held.{Held}

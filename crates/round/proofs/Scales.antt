@@ -1,5 +1,5 @@
 -- The code's multipliers give the weights of the round, or let each lift grow by its whole new measure; and all of it has room.
-use Prim.Native.Nat.{ℕ, _+_, _*_, _^_, _≤_, _<_}
+use Prim.Native.Nat.{ℕ, _+_, _*_, _≤_, _<_}
 use mathlib.Core.Path.{_≡_, refl, ap, ap₂, fun-ext, _∙_}
 use mathlib.Core.Bool.{Bool, true, false, cond}
 use mathlib.Core.List.{List, [], _∷_, map, map-map}
@@ -15,15 +15,15 @@ use Rattle.laws.specs.Plan.{draw, after}
 use Rattle.laws.proofs.Sums.{total-map, total-mul}
 use Rattle.round.specs.Round.{S, sent, U, D, oldWeight, newWeight, Weight, weights, growth, G, Fitting}
 use Rattle.round.specs.Choice.{fresh, firstOdds, preliminary, keyfitz, select, plan}
-use Rattle.round.specs.Slices.{lifts, Level, scaled, scaleOf, wholly, Room, Balanced, capacity, Bounded, Stands, Callable, drawGrowth}
+use Rattle.round.specs.Rows.{sumsOf, Small, scaled, scaleOf, wholly, Room, Balanced, capacity, Bounded, Stands, Callable, drawGrowth}
 use Rattle.round.specs.declared.Donors.{Donors}
 use Rattle.round.specs.declared.Donors.the-variants.{None, One, Two}
 use Rattle.round.specs.declared.Held.{Held}
 use Rattle.round.specs.declared.Held.the-variants.{Neither, Single, Both}
 use Rattle.round.specs.declared.Lift.{Lift}
 use Rattle.round.specs.declared.Scale.{Scale}
+use Rattle.round.specs.declared.Sums.{Sums}
 use Rattle.round.proofs.Weights.{old-sum, new-sum, two-positive, weight-bound}
-use Rattle.round.proofs.Loops.{lifts-length}
 
 -- ---- the multipliers of a round
 
@@ -97,88 +97,73 @@ whole-positive {ls = ls} f = rw (whole-G ls) (f .positive)
 -- ---- the sums of the code
 
 -- one donor: the code's sums are the multipliers
-pub one-scale : {ds : Donors} {T : ℕ} (ls : List Lift) {u x : ℕ} → ds ≡ One T → u ≡ U 1 ls → x ≡ G (map (scaled wholly) ls)
-    → record { new = u; first = x; second = 0; odds = 0 } ≡ scaleOf ds ls
-unfolding scaleOf
-one-scale ls e p q = rw (e, p, q, whole-G)
-
-pub one-room : {ds : Donors} {T : ℕ} {ls : List Lift} → ds ≡ One T → Fitting ds ls → Bounded ds ls → U 1 ls ≤ 2 ^ 61
-one-room {T = T} {ls} e f b = go (rw e at f) (rw e at b)
-  where
-    go : Fitting (One T) ls → Bounded (One T) ls → U 1 ls ≤ 2 ^ 61
-    go f b = omega (arith, f .donate .part, b .old)
-
--- two donors: the code's sums and products are the multipliers
-pub two-scale : {ds : Donors} {T₁ T₂ : ℕ} (ls : List Lift) {u v x : ℕ} → ds ≡ Two T₁ T₂ → u ≡ U 1 ls → v ≡ U 2 ls → x ≡ G (map (scaled wholly) ls)
-    → record { new = u * T₂ + v * T₁; first = T₂ * x; second = T₁ * x; odds = v * T₁ } ≡ scaleOf ds ls
-unfolding scaleOf
-two-scale ls e p q r = rw (e, p, q, r, whole-G)
-
--- the sums of a round with two donors
-record Small (T₁ T₂ : ℕ) (ls : List Lift) : Type 0 where
-  whole : S ls ≤ capacity
-  first : T₁ ≤ capacity
-  second : T₂ ≤ capacity
-  part₁ : U 1 ls ≤ capacity
-  part₂ : U 2 ls ≤ capacity
-
--- they and their products have room
-module _ {ds : Donors} {T₁ T₂ : ℕ} {ls : List Lift} (e : ds ≡ Two T₁ T₂) (f : Fitting ds ls) (b : Bounded ds ls) where
-  small : Small T₁ T₂ ls
-  small = go (rw e at f) (rw e at b)
+module _ {ds : Donors} {T : ℕ} (ls : List Lift) (e : ds ≡ One T) where
+  pub one-small : Fitting ds ls → Bounded ds ls → Small (sumsOf 1 ls)
+  one-small f b = go (rw e at f) (rw e at b)
     where
-      go : Fitting (Two T₁ T₂) ls → Bounded (Two T₁ T₂) ls → Small T₁ T₂ ls
-      go f b = record {
-        whole = b .new;
-        first = b .old .0;
-        second = b .old .1;
-        part₁ = omega (arith, f .donate .0 .part, b .old .0);
-        part₂ = omega (arith, f .donate .1 .part, b .old .1);
-      }
+      go : Fitting (One T) ls → Bounded (One T) ls → Small (sumsOf 1 ls)
+      go f b = let u : U 1 ls ≤ capacity = omega (arith, f .donate .part, b .old) in record { new = b .new; first = u; last = u }
 
-  pub first-room : U 1 ls ≤ 2 ^ 61
-  first-room = omega (arith, small .part₁)
+  pub one-scale : {t : Sums} → t ≡ sumsOf 1 ls → record { new = t .first; first = t .new; second = 0; odds = 0 } ≡ scaleOf ds ls
+  unfolding scaleOf
+  one-scale p = rw (e, p)
 
-  pub second-room : U 2 ls ≤ 2 ^ 61
-  second-room = omega (arith, small .part₂)
+-- two donors: so are the code's sums and products, and they have room
+module _ {ds : Donors} {T₁ T₂ : ℕ} (ls : List Lift) (e : ds ≡ Two T₁ T₂) where
+  pub two-scale : {t : Sums} → t ≡ sumsOf 2 ls
+      → record { new = t .first * T₂ + t .last * T₁; first = T₂ * t .new; second = T₁ * t .new; odds = t .last * T₁ } ≡ scaleOf ds ls
+  unfolding scaleOf
+  two-scale p = rw (e, p)
 
-  pub first-part : {u : ℕ} → u ≡ U 1 ls → Fits w64 (u * T₂)
-  first-part p = rw p (omega (arith, mul-le-mul (small .part₁) (small .second)))
+  module _ (f : Fitting ds ls) (b : Bounded ds ls) where
+    -- the donors' whole old sums
+    wholes : (T₁ ≤ capacity) × (T₂ ≤ capacity)
+    wholes = (rw e at b) .old
 
-  pub second-part : {u : ℕ} → u ≡ U 2 ls → Fits w64 (u * T₁)
-  second-part p = rw p (omega (arith, mul-le-mul (small .part₂) (small .first)))
+    pub two-small : Small (sumsOf 2 ls)
+    two-small = go (rw e at f)
+      where
+        go : Fitting (Two T₁ T₂) ls → Small (sumsOf 2 ls)
+        go f = record { new = b .new; first = omega (arith, f .donate .0 .part, wholes .0); last = omega (arith, f .donate .1 .part, wholes .1) }
 
-  pub both-parts : {u v : ℕ} → u ≡ U 1 ls → v ≡ U 2 ls → Fits w64 (u * T₂ + v * T₁)
-  both-parts p q = rw (p, q) (omega (arith, mul-le-mul (small .part₁) (small .second), mul-le-mul (small .part₂) (small .first)))
+    module _ {t : Sums} (p : t ≡ sumsOf 2 ls) where
+      small : Small t
+      small = rw p two-small
 
-  pub first-times : {x : ℕ} → x ≡ G (map (scaled wholly) ls) → Fits w64 (T₁ * x)
-  first-times q = rw (q, whole-G) (omega (arith, mul-le-mul (small .first) (small .whole)))
+      pub first-part : Fits w64 (t .first * T₂)
+      first-part = omega (arith, mul-le-mul (small .first) (wholes .1))
 
-  pub second-times : {x : ℕ} → x ≡ G (map (scaled wholly) ls) → Fits w64 (T₂ * x)
-  second-times q = rw (q, whole-G) (omega (arith, mul-le-mul (small .second) (small .whole)))
+      pub last-part : Fits w64 (t .last * T₁)
+      last-part = omega (arith, mul-le-mul (small .last) (wholes .0))
+
+      pub both-parts : Fits w64 (t .first * T₂ + t .last * T₁)
+      both-parts = omega (arith, mul-le-mul (small .first) (wholes .1), mul-le-mul (small .last) (wholes .0))
+
+      pub first-times : Fits w64 (T₁ * t .new)
+      first-times = omega (arith, mul-le-mul (wholes .0) (small .new))
+
+      pub second-times : Fits w64 (T₂ * t .new)
+      second-times = omega (arith, mul-le-mul (wholes .1) (small .new))
 
 -- ---- what a caller shows
 
--- a held lift stands at a place of the slices
-pub single-inside : {D : Donors} {ms ds bs : List ℕ} {h : Held} {i : ℕ} → Level ms ds bs → h ≡ Single i → Callable D (lifts ms ds bs) h → i < length ms
-single-inside {D} {i = i} l e c = rw (← lifts-length l) (go D (rw e at (c .stands)))
+-- a held lift stands at a place of the round
+pub single-inside : {D : Donors} {ls : List Lift} {h : Held} {i : ℕ} → h ≡ Single i → Callable D ls h → i < length ls
+single-inside {D} {ls} {i = i} e c = go D (rw e at (c .stands))
   where
-    go : {n : ℕ} (D : Donors) → Stands D (Single i) n → i < n
+    go : (D : Donors) → Stands D (Single i) (length ls) → i < length ls
     go None s = absurd s
     go (One T) s = s
     go (Two T₁ T₂) s = s
 
-both-inside : (D : Donors) {i j n : ℕ} → Stands D (Both i j) n → (i < n) × (j < n)
-both-inside None s = absurd s
-both-inside (One T) s = absurd s
-both-inside (Two T₁ T₂) s = s
-
-module _ {D : Donors} {ms ds bs : List ℕ} {i j : ℕ} (l : Level ms ds bs) (c : Callable D (lifts ms ds bs) (Both i j)) where
-  pub first-inside : i < length ms
-  first-inside = rw (← lifts-length l) (both-inside D (c .stands) .0)
-
-  pub second-inside : j < length ms
-  second-inside = rw (← lifts-length l) (both-inside D (c .stands) .1)
+-- and so do both
+pub both-inside : {D : Donors} {ls : List Lift} {i j : ℕ} → Callable D ls (Both i j) → (i < length ls) × (j < length ls)
+both-inside {D} {ls} {i} {j} c = go D (c .stands)
+  where
+    go : (D : Donors) → Stands D (Both i j) (length ls) → (i < length ls) × (j < length ls)
+    go None s = absurd s
+    go (One T) s = absurd s
+    go (Two T₁ T₂) s = s
 
 -- both are here only with two donors, so there is something to draw below
 both-D : (D : Donors) (ls : List Lift) {i j : ℕ} → Callable D ls (Both i j) → 0 < scaleOf D ls .new
@@ -190,10 +175,9 @@ pub both-drawable : {D : Donors} {ls : List Lift} {s : Scale} {i j : ℕ} → s 
 both-drawable {D} {ls} e c = rw e (both-D D ls c)
 
 -- all that an update asks
-pub updatable : {D : Donors} {ms ds bs : List ℕ} {s : Scale} {h : Held} {i : ℕ} → Level ms ds bs → s ≡ scaleOf D (lifts ms ds bs)
-    → Callable D (lifts ms ds bs) h → i < length ms
-    → Level ms ds bs × (Room s (lifts ms ds bs) × (Balanced s (lifts ms ds bs) × (i < length ms)))
-updatable {D} l e c k = (l, (scale-room e (c .fitting) (c .bounded), (scale-balanced D e, k)))
+pub updatable : {D : Donors} {ls : List Lift} {s : Scale} {h : Held} {i : ℕ} → s ≡ scaleOf D ls → Callable D ls h → i < length ls
+    → Room s ls × (Balanced s ls × (i < length ls))
+updatable {D} e c k = (scale-room e (c .fitting) (c .bounded), (scale-balanced D e, k))
 
 -- ---- the choice by the multipliers
 

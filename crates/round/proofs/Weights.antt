@@ -8,7 +8,7 @@ use lib.ListN.{length}
 use Rattle.laws.specs.Sum.{total}
 use Rattle.laws.proofs.Sums.{total-map, total-mul, total-add, map-le, totalBy-map}
 use Rattle.round.specs.Round.{S, sent, U, D, oldWeight, newWeight, Weight, weights, weightAt, G, Sends, Donate, Fitting}
-use Rattle.round.specs.Slices.{capacity, Bounded, SumsBounded}
+use Rattle.round.specs.Rows.{capacity, Bounded, SumsBounded}
 use Rattle.round.specs.declared.Donors.{Donors}
 use Rattle.round.specs.declared.Donors.the-variants.{None, One, Two}
 use Rattle.round.specs.declared.Lift.{Lift}

@@ -7,7 +7,7 @@ use Rattle.laws.specs.Sum.{total}
 use Rattle.laws.specs.Plan.{Every, Drawable, Within}
 use Rattle.round.specs.Round.{liftAt, S, D, weights, weightAt, G, Fitting}
 use Rattle.round.specs.Choice.{plan}
-use Rattle.round.specs.Slices.{Bounded, Stands}
+use Rattle.round.specs.Rows.{Bounded, Stands}
 use Rattle.round.specs.declared.Donors.{Donors}
 use Rattle.round.specs.declared.Held.{Held}
 use Rattle.round.specs.declared.Held.the-variants.{Neither, Single, Both}

@@ -2,6 +2,6 @@ pub mod Round
 pub mod Choice
 pub mod Share
 pub mod Keep
-pub mod Slices
+pub mod Rows
 pub mod Worked
 pub mod Law

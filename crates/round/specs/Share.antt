@@ -6,6 +6,7 @@ use mathlib.Core.List.{List, map}
 use lib.ListN.{length}
 use lib.Dec.{eqb}
 use Rattle.laws.specs.Sum.{total}
+use Rattle.laws.specs.Initial.{Initial, here, elsewhere}
 use Rattle.laws.specs.Fraction.{Fraction, _//_, _⊕_, _⊗_, _≈_, sum}
 use Rattle.laws.specs.Plan.{Plan, after, Every, paths, weight}
 use Rattle.round.specs.Round.{liftAt, S, sent, U, D, oldWeight, Weight, weightAt, Fitting}
@@ -15,11 +16,6 @@ use Rattle.round.specs.declared.Donors.the-variants.{None, One, Two}
 use Rattle.round.specs.declared.Held.{Held}
 use Rattle.round.specs.declared.Held.the-variants.{Neither, Single, Both}
 use Rattle.round.specs.declared.Lift.{Lift}
-
--- a donor's initial selection, its held lift (the document's marking, for one donor): at a place of this round, or in another round
-pub data Initial : Type 0 where
-  here : ℕ → Initial
-  elsewhere : Initial
 
 -- the held lifts in this round, from the initial selections of donor 1 and donor 2
 abbrev pub heldOf : Initial → Initial → Held

@@ -15,7 +15,7 @@ use Rattle.round.specs.Round.{liftAt, S, D, weights, G}
 use Rattle.round.specs.Choice.{selected}
 use Rattle.round.specs.Share.{share}
 use Rattle.round.specs.Keep.{kept, tickets, keptTickets}
-use Rattle.round.specs.Slices.{lift}
+use Rattle.round.specs.Rows.{lift}
 use Rattle.round.specs.declared.Donors.{Donors}
 use Rattle.round.specs.declared.Donors.the-variants.{None, One, Two}
 use Rattle.round.specs.declared.Held.{Held}

@@ -1,15 +1,15 @@
-// One round: which of its lifts is to carry the recorder ("One round" of document 01). The round is lent as three slices in
-// lift order: old measures, donors (1 or 2, 0 for none) and new measures.
+// One round: which of its lifts is to carry the recorder ("One round" of document 01). The round is lent as rows in lift
+// order, one for each lift, of four numbers: lift number, donor (1 or 2, 0 for none), old measure and new measure.
 ghost use mathlib.Core.Path.{_≡_};
 ghost use mathlib.Core.List.{map};
-ghost use Prim.Native.Nat.{_-_, _^_, _≤_, _<_};
+ghost use Prim.Native.Nat.{_-_, _≤_, _<_};
 ghost use lib.ListN.{length, take};
 ghost use Rattle.laws.specs.Interval.{pick as pickOf};
 ghost use Rattle.draw.specs.Draw.{largest};
 ghost use Rattle.draw.specs.Run.{run};
-ghost use Rattle.round.specs.Round.{liftAt, U, sent as sentOf, growth, G, Fitting};
+ghost use Rattle.round.specs.Round.{liftAt, sent as sentOf, growth, G, Fitting};
 ghost use Rattle.round.specs.Choice.{keyfitz, isHeld, outcome as outcomeOf, selection, answer, selected};
-ghost use Rattle.round.specs.Slices.{lifts, Level, Bounded, Callable, multiplierOf, scaled, scaleOf, Room, LiftRoom, Balanced, blockLength, blockEnd, between, drawGrowth};
+ghost use Rattle.round.specs.Rows.{lifts, Bounded, Callable, sumsOf, Small, multiplierOf, scaled, scaleOf, Room, LiftRoom, Balanced, blockLength, blockEnd, between, drawGrowth};
 use draw::Drawn;
 
 // The donors of a round, with their whole old sums T.
@@ -35,8 +35,21 @@ pub enum Selected {
 // A lift of the round: "m and b are a lift's old and new measures"; the donor that it comes from is 1 or 2, or 0 for none.
 pub struct Lift {
     pub old: u64,
-    pub donor: u8,
+    pub donor: u32,
     pub new: u64,
+}
+
+impl Lift {
+    // How many numbers the row of a lift has: its number, its donor, its old measure and its new one.
+    pub const ROW: usize = 4;
+}
+
+// Sums over a round: of its new measures (S), and of the old measures that donor 1 and the last donor sent (U); an only donor is
+// both.
+struct Sums {
+    new: u64,
+    first: u64,
+    last: u64,
 }
 
 // Multipliers that give weights: of new measures, and of the old measures of donor 1 and donor 2. Of the values below `new`,
@@ -60,7 +73,7 @@ const WHOLLY: Scale = Scale {
 const BLOCK: usize = 16;
 
 // What the old measures of a donor are multiplied by.
-fn multiplier(s: Scale, donor: u8) -> u64
+fn multiplier(s: Scale, donor: u32) -> u64
     ensures { λ r. ⌜ r ≡ multiplierOf s donor ⌝ }
 {
     if donor == 1 {
@@ -85,42 +98,47 @@ fn interval(s: Scale, l: Lift) -> u64
     0
 }
 
-// The lift at a place of the slices.
-fn lift_at(old: &[u64], donor: &[u8], new: &[u64], i: usize) -> Lift
-    requires { ⌜ Level (now old) (now donor) (now new) ⌝ }
-    requires { ⌜ i < length (now old) ⌝ }
-    ensures { λ r. ⌜ r ≡ liftAt (lifts (now (old .entry)) (now (donor .entry)) (now (new .entry))) i ⌝ }
+// How many lifts the rows have.
+fn count(rows: &[u32]) -> usize
+    ensures { λ r. ⌜ r ≡ length (lifts (now (rows .entry))) ⌝ }
 {
+    rows.len() / Lift::ROW
+}
+
+// The lift at a place of the round.
+fn lift_at(rows: &[u32], i: usize) -> Lift
+    requires { ⌜ i < length (lifts (now rows)) ⌝ }
+    ensures { λ r. ⌜ r ≡ liftAt (lifts (now (rows .entry))) i ⌝ }
+{
+    let at = Lift::ROW * i;
     Lift {
-        old: old[i],
-        donor: donor[i],
-        new: new[i],
+        old: rows[at + 2] as u64,
+        donor: rows[at + 1],
+        new: rows[at + 3] as u64,
     }
 }
 
 // The sum of the intervals of the lifts from place a up to place e.
-fn reach_between(s: Scale, old: &[u64], donor: &[u8], new: &[u64], a: usize, e: usize) -> u64
-    requires { ⌜ Level (now old) (now donor) (now new) ⌝ }
-    requires { ⌜ Room s (lifts (now old) (now donor) (now new)) ⌝ }
-    requires { ⌜ e ≤ length (now old) ⌝ }
-    ensures { λ r. ⌜ r ≡ G (map (scaled s) (between a e (lifts (now (old .entry)) (now (donor .entry)) (now (new .entry))))) ⌝ }
+fn reach_between(s: Scale, rows: &[u32], a: usize, e: usize) -> u64
+    requires { ⌜ Room s (lifts (now rows)) ⌝ }
+    requires { ⌜ e ≤ length (lifts (now rows)) ⌝ }
+    ensures { λ r. ⌜ r ≡ G (map (scaled s) (between a e (lifts (now (rows .entry))))) ⌝ }
 {
     let mut sum: u64 = 0;
     let mut i = a;
     while i < e {
-        sum += interval(s, lift_at(old, donor, new, i));
+        sum += interval(s, lift_at(rows, i));
         i += 1;
     }
     sum
 }
 
 // The sum of all intervals.
-fn reach(s: Scale, old: &[u64], donor: &[u8], new: &[u64]) -> u64
-    requires { ⌜ Level (now old) (now donor) (now new) ⌝ }
-    requires { ⌜ Room s (lifts (now old) (now donor) (now new)) ⌝ }
-    ensures { λ r. ⌜ r ≡ G (map (scaled s) (lifts (now (old .entry)) (now (donor .entry)) (now (new .entry)))) ⌝ }
+fn reach(s: Scale, rows: &[u32]) -> u64
+    requires { ⌜ Room s (lifts (now rows)) ⌝ }
+    ensures { λ r. ⌜ r ≡ G (map (scaled s) (lifts (now (rows .entry)))) ⌝ }
 {
-    reach_between(s, old, donor, new, 0, old.len())
+    reach_between(s, rows, 0, count(rows))
 }
 
 // The place, among the lifts lent, of the one in whose interval the position q falls.
@@ -161,11 +179,10 @@ fn block_end(a: usize, n: usize) -> usize
 }
 
 // The lifts from place a up to place e, at the start of a block.
-fn gathered(old: &[u64], donor: &[u8], new: &[u64], a: usize, e: usize) -> [Lift; BLOCK]
-    requires { ⌜ Level (now old) (now donor) (now new) ⌝ }
-    requires { ⌜ (a ≤ e) × (e ≤ length (now old)) ⌝ }
+fn gathered(rows: &[u32], a: usize, e: usize) -> [Lift; BLOCK]
+    requires { ⌜ (a ≤ e) × (e ≤ length (lifts (now rows))) ⌝ }
     requires { ⌜ e - a ≤ blockLength ⌝ }
-    ensures { λ r. ⌜ take (e - a) r ≡ between a e (lifts (now (old .entry)) (now (donor .entry)) (now (new .entry))) ⌝ }
+    ensures { λ r. ⌜ take (e - a) r ≡ between a e (lifts (now (rows .entry))) ⌝ }
 {
     let none = Lift {
         old: 0,
@@ -175,25 +192,25 @@ fn gathered(old: &[u64], donor: &[u8], new: &[u64], a: usize, e: usize) -> [Lift
     let mut block = [none; BLOCK];
     let mut i = a;
     while i < e {
-        block[i - a] = lift_at(old, donor, new, i);
+        block[i - a] = lift_at(rows, i);
         i += 1;
     }
     block
 }
 
 // The place of the lift in whose interval the position q falls: its block is found by the sums of blocks, and then lent.
-fn pick_lift(s: Scale, old: &[u64], donor: &[u8], new: &[u64], q: u64) -> usize
-    requires { ⌜ Level (now old) (now donor) (now new) ⌝ }
-    requires { ⌜ Room s (lifts (now old) (now donor) (now new)) ⌝ }
-    ensures { λ r. ⌜ r ≡ pickOf (map growth (map (scaled s) (lifts (now (old .entry)) (now (donor .entry)) (now (new .entry))))) q ⌝ }
+fn pick_lift(s: Scale, rows: &[u32], q: u64) -> usize
+    requires { ⌜ Room s (lifts (now rows)) ⌝ }
+    ensures { λ r. ⌜ r ≡ pickOf (map growth (map (scaled s) (lifts (now (rows .entry))))) q ⌝ }
 {
+    let n = count(rows);
     let mut left = q;
     let mut i = 0;
-    while i < old.len() {
-        let e = block_end(i, old.len());
-        let w = reach_between(s, old, donor, new, i, e);
+    while i < n {
+        let e = block_end(i, n);
+        let w = reach_between(s, rows, i, e);
         if left < w {
-            let block = gathered(old, donor, new, i, e);
+            let block = gathered(rows, i, e);
             return i + pick_first(block, e - i, s, left);
         }
         left -= w;
@@ -203,7 +220,7 @@ fn pick_lift(s: Scale, old: &[u64], donor: &[u8], new: &[u64], q: u64) -> usize
 }
 
 // A lift's old measure where it comes from donor k, else 0.
-fn sent(l: Lift, k: u8) -> u64
+fn sent(l: Lift, k: u32) -> u64
     ensures { λ r. ⌜ r ≡ sentOf k l ⌝ }
 {
     if l.donor == k {
@@ -212,27 +229,31 @@ fn sent(l: Lift, k: u8) -> u64
     0
 }
 
-// U: the part of donor k's old sum that came here.
-fn came(old: &[u64], donor: &[u8], new: &[u64], k: u8) -> u64
-    requires { ⌜ Level (now old) (now donor) (now new) ⌝ }
-    requires { ⌜ U k (lifts (now old) (now donor) (now new)) ≤ 2 ^ 61 ⌝ }
-    ensures { λ r. ⌜ r ≡ U k (lifts (now (old .entry)) (now (donor .entry)) (now (new .entry))) ⌝ }
+// The sums of a round whose last donor is donor k.
+fn sums_of(rows: &[u32], k: u32) -> Sums
+    requires { ⌜ Small (sumsOf k (lifts (now rows))) ⌝ }
+    ensures { λ r. ⌜ r ≡ sumsOf k (lifts (now (rows .entry))) ⌝ }
 {
-    let mut sum: u64 = 0;
+    let n = count(rows);
+    let mut new: u64 = 0;
+    let mut first: u64 = 0;
+    let mut last: u64 = 0;
     let mut i = 0;
-    while i < old.len() {
-        sum += sent(lift_at(old, donor, new, i), k);
+    while i < n {
+        let l = lift_at(rows, i);
+        new += l.new;
+        first += sent(l, 1);
+        last += sent(l, k);
         i += 1;
     }
-    sum
+    Sums { new, first, last }
 }
 
 // The multipliers that give the weights of a round.
-fn scaling(old: &[u64], donor: &[u8], new: &[u64], donors: Donors) -> Scale
-    requires { ⌜ Level (now old) (now donor) (now new) ⌝ }
-    requires { ⌜ Fitting donors (lifts (now old) (now donor) (now new)) ⌝ }
-    requires { ⌜ Bounded donors (lifts (now old) (now donor) (now new)) ⌝ }
-    ensures { λ r. ⌜ r ≡ scaleOf donors (lifts (now (old .entry)) (now (donor .entry)) (now (new .entry))) ⌝ }
+fn scaling(rows: &[u32], donors: Donors) -> Scale
+    requires { ⌜ Fitting donors (lifts (now rows)) ⌝ }
+    requires { ⌜ Bounded donors (lifts (now rows)) ⌝ }
+    ensures { λ r. ⌜ r ≡ scaleOf donors (lifts (now (rows .entry))) ⌝ }
 {
     match donors {
         Donors::None => Scale {
@@ -242,19 +263,19 @@ fn scaling(old: &[u64], donor: &[u8], new: &[u64], donors: Donors) -> Scale
             odds: 0,
         },
         Donors::One(_) => {
-            let s = reach(WHOLLY, old, donor, new);
-            let u = came(old, donor, new, 1);
+            let t = sums_of(rows, 1);
             Scale {
-                new: u,
-                first: s,
+                new: t.first,
+                first: t.new,
                 second: 0,
                 odds: 0,
             }
         }
         Donors::Two(t1, t2) => {
-            let s = reach(WHOLLY, old, donor, new);
-            let u1 = came(old, donor, new, 1);
-            let u2 = came(old, donor, new, 2);
+            let t = sums_of(rows, 2);
+            let s = t.new;
+            let u1 = t.first;
+            let u2 = t.last;
             let odds = u2 * t1;
             Scale {
                 new: u1 * t2 + odds,
@@ -293,23 +314,20 @@ fn outcome(held: Held, place: usize, dropped: bool) -> u32
 // A draw below the sum of all intervals picks the lift in whose interval it falls.
 fn draw_lift(
     s: Scale,
-    old: &[u64],
-    donor: &[u8],
-    new: &[u64],
+    rows: &[u32],
     held: Held,
     dropped: bool,
     words: &[u64],
     at: usize,
 ) -> Selected
-    requires { ⌜ Level (now old) (now donor) (now new) ⌝ }
-    requires { ⌜ Room s (lifts (now old) (now donor) (now new)) ⌝ }
-    requires { ⌜ 1 ≤ G (map (scaled s) (lifts (now old) (now donor) (now new))) ⌝ }
-    ensures { λ r. ⌜ r ≡ answer held (run largest (now (words .entry)) at (drawGrowth dropped (map (scaled s) (lifts (now (old .entry)) (now (donor .entry)) (now (new .entry)))))) ⌝ }
+    requires { ⌜ Room s (lifts (now rows)) ⌝ }
+    requires { ⌜ 1 ≤ G (map (scaled s) (lifts (now rows))) ⌝ }
+    ensures { λ r. ⌜ r ≡ answer held (run largest (now (words .entry)) at (drawGrowth dropped (map (scaled s) (lifts (now (rows .entry)))))) ⌝ }
 {
-    let bound = reach(s, old, donor, new);
+    let bound = reach(s, rows);
     match draw::draw_from(words, at, bound) {
         Drawn::Value(q, next) => {
-            let place = pick_lift(s, old, donor, new, q);
+            let place = pick_lift(s, rows, q);
             Selected::At(place, outcome(held, place, dropped), next)
         }
         Drawn::Short => Selected::Short,
@@ -317,23 +335,13 @@ fn draw_lift(
 }
 
 // Keyfitz's update of the preliminary lift at place i.
-fn update(
-    s: Scale,
-    old: &[u64],
-    donor: &[u8],
-    new: &[u64],
-    held: Held,
-    i: usize,
-    words: &[u64],
-    at: usize,
-) -> Selected
-    requires { ⌜ Level (now old) (now donor) (now new) ⌝ }
-    requires { ⌜ Room s (lifts (now old) (now donor) (now new)) ⌝ }
-    requires { ⌜ Balanced s (lifts (now old) (now donor) (now new)) ⌝ }
-    requires { ⌜ i < length (now old) ⌝ }
-    ensures { λ r. ⌜ r ≡ answer held (run largest (now (words .entry)) at (keyfitz (map (scaled s) (lifts (now (old .entry)) (now (donor .entry)) (now (new .entry)))) i)) ⌝ }
+fn update(s: Scale, rows: &[u32], held: Held, i: usize, words: &[u64], at: usize) -> Selected
+    requires { ⌜ Room s (lifts (now rows)) ⌝ }
+    requires { ⌜ Balanced s (lifts (now rows)) ⌝ }
+    requires { ⌜ i < length (lifts (now rows)) ⌝ }
+    ensures { λ r. ⌜ r ≡ answer held (run largest (now (words .entry)) at (keyfitz (map (scaled s) (lifts (now (rows .entry)))) i)) ⌝ }
 {
-    let l = lift_at(old, donor, new, i);
+    let l = lift_at(rows, i);
     let before = l.old * multiplier(s, l.donor);
     let after = l.new * s.new;
     if before <= after {
@@ -344,7 +352,7 @@ fn update(
             if r < after {
                 Selected::At(i, outcome(held, i, false), next)
             } else {
-                draw_lift(s, old, donor, new, held, true, words, next)
+                draw_lift(s, rows, held, true, words, next)
             }
         }
         Drawn::Short => Selected::Short,
@@ -353,27 +361,24 @@ fn update(
 
 // The choice of a round that both donors' held lifts are in: donor 1's at place i, donor 2's at place j.
 fn select_of_two(
-    old: &[u64],
-    donor: &[u8],
-    new: &[u64],
+    rows: &[u32],
     donors: Donors,
     i: usize,
     j: usize,
     words: &[u64],
     at: usize,
 ) -> Selected
-    requires { ⌜ Level (now old) (now donor) (now new) ⌝ }
-    requires { ⌜ Callable donors (lifts (now old) (now donor) (now new)) (Held.Both i j) ⌝ }
-    ensures { λ r. ⌜ r ≡ selected donors (lifts (now (old .entry)) (now (donor .entry)) (now (new .entry))) (Held.Both i j) (now (words .entry)) at ⌝ }
+    requires { ⌜ Callable donors (lifts (now rows)) (Held.Both i j) ⌝ }
+    ensures { λ r. ⌜ r ≡ selected donors (lifts (now (rows .entry))) (Held.Both i j) (now (words .entry)) at ⌝ }
 {
     let held = Held::Both(i, j);
-    let s = scaling(old, donor, new, donors);
+    let s = scaling(rows, donors);
     match draw::draw_from(words, at, s.new) {
         Drawn::Value(v, next) => {
             if v < s.odds {
-                update(s, old, donor, new, held, i, words, next)
+                update(s, rows, held, i, words, next)
             } else {
-                update(s, old, donor, new, held, j, words, next)
+                update(s, rows, held, j, words, next)
             }
         }
         Drawn::Short => Selected::Short,
@@ -381,25 +386,16 @@ fn select_of_two(
 }
 
 // The choice of a round, from its held lifts and the random words from position `at` on.
-pub fn select(
-    old: &[u64],
-    donor: &[u8],
-    new: &[u64],
-    donors: Donors,
-    held: Held,
-    words: &[u64],
-    at: usize,
-) -> Selected
-    requires { ⌜ Level (now old) (now donor) (now new) ⌝ }
-    requires { ⌜ Callable donors (lifts (now old) (now donor) (now new)) held ⌝ }
-    ensures { λ r. ⌜ r ≡ selected donors (lifts (now (old .entry)) (now (donor .entry)) (now (new .entry))) held (now (words .entry)) at ⌝ }
+pub fn select(rows: &[u32], donors: Donors, held: Held, words: &[u64], at: usize) -> Selected
+    requires { ⌜ Callable donors (lifts (now rows)) held ⌝ }
+    ensures { λ r. ⌜ r ≡ selected donors (lifts (now (rows .entry))) held (now (words .entry)) at ⌝ }
 {
     match held {
-        Held::Neither => draw_lift(WHOLLY, old, donor, new, held, false, words, at),
+        Held::Neither => draw_lift(WHOLLY, rows, held, false, words, at),
         Held::Single(i) => {
-            let s = scaling(old, donor, new, donors);
-            update(s, old, donor, new, held, i, words, at)
+            let s = scaling(rows, donors);
+            update(s, rows, held, i, words, at)
         }
-        Held::Both(i, j) => select_of_two(old, donor, new, donors, i, j, words, at),
+        Held::Both(i, j) => select_of_two(rows, donors, i, j, words, at),
     }
 }

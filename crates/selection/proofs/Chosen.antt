@@ -15,16 +15,17 @@ use Rattle.draw.proofs.Runs.{run-every}
 use Rattle.round.specs.Round.{liftAt as roundLiftAt, S, Donate, Weight, oldWeight, weights, weightAt}
 use Rattle.round.specs.Choice.{Selection}
 use Rattle.round.specs.Law.{Weighty}
-use Rattle.round.specs.Slices.{lift}
-use Rattle.round.specs.Share.{Initial, here, elsewhere, heldOf}
+use Rattle.round.specs.Rows.{lift}
+use Rattle.laws.specs.Initial.{Initial, here, elsewhere}
+use Rattle.round.specs.Share.{heldOf}
 use Rattle.round.specs.declared.Donors.{Donors}
 use Rattle.round.specs.declared.Lift.{Lift as RoundLift}
 use Rattle.round.proofs.Laws.{lawful}
 use Rattle.sheet.specs.Sheet.{mostRounds, Lift}
-use Rattle.sheet.specs.Rounds.{placeAt, named, sumOf, donors, ofRound}
 use Rattle.sheet.specs.Law.{Fit}
 use Rattle.sheet.specs.declared.Side.the-variants.{Old, New}
-use Rattle.selection.specs.Choice.{donorNumber, withSums, donorsOf, liftsOf, further, heldAt, heldAmong, heldIn, planOf, nobody, liftAt}
+use Rattle.sheet.specs.Rounds.{placeAt, named, sumOf, donors, ofRound, donorNumber, further, heldAt}
+use Rattle.selection.specs.Choice.{withSums, donorsOf, liftsOf, heldAmong, heldIn, planOf, nobody, liftAt}
 use Rattle.selection.proofs.Held.{proper}
 use Rattle.selection.proofs.Flags.{ofRound-all}
 use Rattle.selection.proofs.RoundsFit.{Senders, none, one, two, senders, number-first, number-second, round-fits}

@@ -13,17 +13,17 @@ use Rattle.round.specs.Round.{liftAt as roundLiftAt, U, D, weights}
 use Rattle.round.specs.Choice.{plan, isHeld}
 use Rattle.round.specs.Share.{chooses, share as roundShare}
 use Rattle.round.specs.Keep.{kept as roundKept, Best}
-use Rattle.round.specs.Slices.{lift}
+use Rattle.round.specs.Rows.{lift}
 use Rattle.round.specs.declared.Held.{Held}
 use Rattle.round.specs.declared.Donors.the-variants.{One}
 use Rattle.round.proofs.Shares.{shares as round-shares}
 use Rattle.round.proofs.Keeping.{best-≈, keeps as round-keeps}
 use Rattle.sheet.specs.Sheet.{mostRounds, Lift, sheetOf}
-use Rattle.sheet.specs.Rounds.{placeAt, named, inUse, sumOf, donors, ofRound}
 use Rattle.sheet.specs.Law.{Fit}
 use Rattle.sheet.specs.declared.Side.the-variants.{Old, New}
 use Rattle.sheet.proofs.Those.{those-in}
-use Rattle.selection.specs.Choice.{donorNumber, donorsOf, liftsOf, heldIn, planOf, nobody, liftAt}
+use Rattle.sheet.specs.Rounds.{placeAt, named, inUse, sumOf, donors, ofRound, donorNumber}
+use Rattle.selection.specs.Choice.{donorsOf, liftsOf, heldIn, planOf, nobody, liftAt}
 use Rattle.selection.specs.Initial.{marked}
 use Rattle.selection.specs.Fair.{share, kept, FairTheorem}
 use Rattle.selection.proofs.Marks.{inUse-marked, donorsOf-marked, liftsOf-marked}

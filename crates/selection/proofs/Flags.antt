@@ -12,12 +12,13 @@ use borrow.Author.Tests.{eqb-true, leb-false, eq-eqb, lt-ltb}
 use Rattle.laws.specs.Sum.{totalBy, indicator}
 use Rattle.laws.proofs.Lists.{All, all-none, all-keep, all-getD}
 use Rattle.round.specs.Choice.{isHeld}
-use Rattle.round.specs.Share.{Initial, here, elsewhere, heldOf}
+use Rattle.laws.specs.Initial.{Initial, here, elsewhere}
+use Rattle.round.specs.Share.{heldOf}
 use Rattle.sheet.specs.Sheet.{mostRounds, Lift}
-use Rattle.sheet.specs.Rounds.{comes, sends, donors, ofRound, heldIn as heldCount}
 use Rattle.sheet.specs.Law.{Listed, Fit}
 use Rattle.sheet.proofs.Those.{those-has}
-use Rattle.selection.specs.Choice.{further, heldAt, heldAmong, heldIn, nobody, liftAt}
+use Rattle.sheet.specs.Rounds.{comes, sends, donors, ofRound, heldIn as heldCount, further, heldAt}
+use Rattle.selection.specs.Choice.{heldAmong, heldIn, nobody, liftAt}
 use Rattle.selection.proofs.Held.{proper, somewhere, held-one}
 
 -- ---- the marks of a round

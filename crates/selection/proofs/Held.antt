@@ -59,7 +59,7 @@ length-written (l ∷ ls) ws = go (l .held) (length-written ls ws)
     go false e = omega arith
 
 -- a round that is not unheld has one held lift if it is in use, else none
-held-exactly : (ls : List Lift) (r : ℕ) → unheld ls r ≡ false → heldCount r ls ≡ indicator (ltb 0 (named Old r ls))
+pub held-exactly : (ls : List Lift) (r : ℕ) → unheld ls r ≡ false → heldCount r ls ≡ indicator (ltb 0 (named Old r ls))
 held-exactly ls r h =
     go (ltb 0 (named Old r ls)) refl (eqb (heldCount r ls) 1) refl h (totalBy-le oldRound r (λ l. indicator (l .held)) (λ _. 1) (λ l. indicator-le (l .held)) ls)
   where

@@ -6,13 +6,13 @@ use mathlib.Core.List.{List, [], _∷_, map-map}
 use lib.Dec.{eqb, ltb}
 use lib.ListN.{length, length-map}
 use Rattle.laws.specs.Sum.{totalBy}
-use Rattle.round.specs.Slices.{lift}
+use Rattle.round.specs.Rows.{lift}
 use Rattle.sheet.specs.Sheet.{mostRounds, Lift}
-use Rattle.sheet.specs.Rounds.{placeAt, named, inUse, sumOf, comes, sends, donors, ofRound}
 use Rattle.sheet.specs.declared.Side.{Side}
 use Rattle.sheet.specs.declared.Side.the-variants.{Old, New}
 use Rattle.sheet.proofs.Those.{those-ext}
-use Rattle.selection.specs.Choice.{donorNumber, withSums, donorsOf, liftsOf}
+use Rattle.sheet.specs.Rounds.{placeAt, named, inUse, sumOf, comes, sends, donors, ofRound, donorNumber}
+use Rattle.selection.specs.Choice.{withSums, donorsOf, liftsOf}
 use Rattle.selection.specs.Initial.{holding, marked}
 
 module _ (m : List Lift) where

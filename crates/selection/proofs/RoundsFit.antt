@@ -10,16 +10,17 @@ use borrow.Author.Tests.{eqb-true, eqb-false, lt-ltb, ltb-true, ltb-false, leb-f
 use Rattle.laws.specs.Sum.{total, totalBy}
 use Rattle.laws.proofs.Tests.{eqb-comm}
 use Rattle.round.specs.Round.{S, U, Donate, Fitting as RoundFitting}
-use Rattle.round.specs.Share.{Initial, here, elsewhere, heldOf}
+use Rattle.laws.specs.Initial.{Initial, here, elsewhere}
+use Rattle.round.specs.Share.{heldOf}
 use Rattle.round.specs.declared.Donors.the-variants.{One, Two}
-use Rattle.round.specs.Slices.{lift, Stands, Bounded, SumsBounded}
+use Rattle.round.specs.Rows.{lift, Stands, Bounded, SumsBounded}
 use Rattle.round.specs.declared.Lift.{Lift as RoundLift}
 use Rattle.sheet.specs.Sheet.{mostRounds, largestSum, Lift}
-use Rattle.sheet.specs.Rounds.{placeAt, named, sumOf, sends, donors, ofRound}
 use Rattle.sheet.specs.Law.{Fit}
 use Rattle.sheet.specs.declared.Side.the-variants.{Old, New}
 use Rattle.sheet.proofs.Those.{those-head}
-use Rattle.selection.specs.Choice.{donorNumber, withSums, donorsOf, liftsOf, further, heldAt, heldAmong, heldIn}
+use Rattle.sheet.specs.Rounds.{placeAt, named, sumOf, sends, donors, ofRound, donorNumber, further, heldAt}
+use Rattle.selection.specs.Choice.{withSums, donorsOf, liftsOf, heldAmong, heldIn}
 
 -- ---- the sums of a round
 

@@ -10,16 +10,17 @@ use borrow.Author.Tests.{eqb-true, leb-false, lt-ltb, not-false}
 use Rattle.laws.specs.Sum.{totalBy, indicator}
 use Rattle.laws.specs.Fraction.{Fraction, _//_, _≈_}
 use Rattle.laws.proofs.Fractions.{≈-refl, ≈-trans}
-use Rattle.round.specs.Share.{Initial, elsewhere, heldOf, overInitial, overHeld}
+use Rattle.laws.specs.Initial.{Initial, elsewhere}
+use Rattle.round.specs.Share.{heldOf, overInitial, overHeld}
 use Rattle.round.specs.declared.Held.{Held}
 use Rattle.round.specs.declared.Held.the-variants.{Neither}
 use Rattle.round.proofs.Initials.{initial-den}
 use Rattle.sheet.specs.Sheet.{mostRounds, Lift}
-use Rattle.sheet.specs.Rounds.{named, sumOf, heldIn as heldCount, sends, donors, ofRound}
 use Rattle.sheet.specs.Law.{Listed, Fit}
 use Rattle.sheet.specs.declared.Side.the-variants.{Old}
 use Rattle.sheet.proofs.Those.{those-none, Rising, those-rise}
-use Rattle.selection.specs.Choice.{donorNumber, withSums, donorsOf, liftsOf, heldAt, heldAmong, heldIn}
+use Rattle.sheet.specs.Rounds.{named, sumOf, heldIn as heldCount, sends, donors, ofRound, donorNumber, heldAt}
+use Rattle.selection.specs.Choice.{withSums, donorsOf, liftsOf, heldAmong, heldIn}
 use Rattle.selection.specs.Initial.{marked, odds, overSelections}
 use Rattle.selection.proofs.Marks.{sends-marked, ofRound-marked}
 use Rattle.selection.proofs.RoundsFit.{number-first, number-second}
@@ -40,7 +41,7 @@ held-measured n (l ∷ ls) d t = omega (arith, one (eqb (l .old .round) t) (l .h
     one false y e = omega arith
 
 -- a donor is an old round in use
-sends-named : (t r : ℕ) (ls : List Lift) → sends t r ls ≡ true → 0 < named Old t ls
+pub sends-named : (t r : ℕ) (ls : List Lift) → sends t r ls ≡ true → 0 < named Old t ls
 unfolding sends totalBy
 sends-named t r [] h = absurd (true≢false (sym h))
 sends-named t r (l ∷ ls) h = go (eqb (l .old .round) t) h (sends-named t r ls)

@@ -13,14 +13,13 @@ use Rattle.laws.specs.Sum.{over, totalBy}
 use Rattle.laws.specs.Fraction.{Fraction, _//_, _⊕_, _⊗_, _≈_, sum}
 use Rattle.laws.proofs.Fractions.{pos-left, ≈-refl, ≈-trans, ⊕-assoc, ⊕-≈}
 use Rattle.round.specs.Round.{liftAt, sent, U}
-use Rattle.round.specs.Slices.{lift}
-use Rattle.round.specs.Share.{Initial, here, elsewhere}
+use Rattle.round.specs.Rows.{lift}
+use Rattle.laws.specs.Initial.{Initial, here, elsewhere}
 use Rattle.round.specs.declared.Lift.{Lift as RoundLift}
 use Rattle.sheet.specs.Sheet.{Lift}
-use Rattle.sheet.specs.Rounds.{placeAt, sumOf, ofRound}
 use Rattle.sheet.specs.Law.{Listed}
 use Rattle.sheet.specs.declared.Side.the-variants.{Old, New}
-use Rattle.selection.specs.Choice.{further, heldAt}
+use Rattle.sheet.specs.Rounds.{placeAt, sumOf, ofRound, further, heldAt}
 use Rattle.selection.specs.Initial.{names, marked}
 use Rattle.selection.proofs.Means.{nth, brought, mean, brought-≈, mean-≈}
 

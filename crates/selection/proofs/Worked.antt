@@ -11,9 +11,9 @@ use Rattle.round.specs.Round.{S, U, D, oldWeight, newWeight, weights, G}
 use Rattle.round.specs.Choice.{fresh, firstOdds, preliminary, stayOr, replacement, keyfitz, select, plan, outcome}
 use Rattle.sheet.specs.Sheet.{lifts, written as writtenLifts}
 use Rattle.sheet.specs.Reading.{fault, readFrom}
-use Rattle.sheet.specs.Rounds.{those, sends, ofRound}
 use Rattle.sheet.specs.Refusal.{firstRound, ofRounds, verdict}
-use Rattle.selection.specs.Choice.{donorsOf, liftsOf, heldAt, heldIn, planOf, liftAt, panelFrom, reply, written, output}
+use Rattle.sheet.specs.Rounds.{those, sends, ofRound, heldAt}
+use Rattle.selection.specs.Choice.{donorsOf, liftsOf, heldIn, planOf, liftAt, panelFrom, reply, written, output}
 use Rattle.selection.specs.Initial.{eligible, each, selectionsFrom, marked, product, odds, sumOver, overSelections}
 use Rattle.selection.specs.Fair.{share, kept}
 use Rattle.selection.specs.Worked.{cases, silentCases, allRight, rightShares, rightKeeping}

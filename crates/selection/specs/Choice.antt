@@ -1,16 +1,17 @@
 -- The whole choice: each new round of a sheet by "One round" of document 01, "in rising order, each reading on where the one before
 -- stopped".
-use Prim.Native.Nat.{ℕ, suc, _+_, _*_, _-_, _^_}
-use mathlib.Core.Bool.{cond, _&&_, false}
+use Prim.Native.Nat.{ℕ, _+_, _*_, _-_, _^_}
+use mathlib.Core.Bool.{cond, false}
 use mathlib.Core.List.{List, [], _∷_, _++_, map}
-use lib.Dec.{eqb, ltb}
+use lib.Dec.{ltb}
 use lib.ListN.{length, getD, set, drop}
 use Rattle.laws.specs.Plan.{Plan}
 use Rattle.draw.specs.Draw.{largest}
 use Rattle.draw.specs.Run.{Run, finished, short as ended, run}
-use Rattle.round.specs.Slices.{lift}
+use Rattle.round.specs.Rows.{lift}
 use Rattle.round.specs.Choice.{Selection, plan, outcome}
-use Rattle.round.specs.Share.{Initial, here, elsewhere, heldOf}
+use Rattle.laws.specs.Initial.{elsewhere}
+use Rattle.round.specs.Share.{heldOf}
 use Rattle.round.specs.declared.Donors.{Donors}
 use Rattle.round.specs.declared.Donors.the-variants.{None, One, Two}
 use Rattle.round.specs.declared.Held.{Held}
@@ -18,18 +19,12 @@ use Rattle.round.specs.declared.Held.the-variants.{Neither}
 use Rattle.round.specs.declared.Lift.{Lift as RoundLift}
 use Rattle.sheet.specs.Sheet.{Lift, lifts, word}
 use Rattle.sheet.specs.Reading.{numbered}
-use Rattle.sheet.specs.Rounds.{placeAt, inUse, sumOf, donors, ofRound}
+use Rattle.sheet.specs.Rounds.{placeAt, inUse, sumOf, donors, donorNumber, ofRound, heldAt}
 use Rattle.sheet.specs.Refusal.{Verdict, refused, fits, verdict}
 use Rattle.sheet.specs.Reply.{Reply, replied, ofRefusal, unlessRefused}
 use Rattle.sheet.specs.declared.Side.the-variants.{Old, New}
 
 -- ---- one round of a sheet
-
--- 1 for the first of some donors, 2 for the second, 0 for another old round: "The lower-numbered donor is donor 1."
-abbrev pub donorNumber : List ℕ → ℕ → ℕ
-donorNumber [] t = 0
-donorNumber (d ∷ []) t = cond (eqb d t) 1 0
-donorNumber (d ∷ e ∷ ds) t = cond (eqb d t) 1 (cond (eqb e t) 2 0)
 
 -- donors with their whole old sums: "T is the donor's whole old sum, lifts gone elsewhere included."
 abbrev pub withSums : List ℕ → List Lift → Donors
@@ -44,16 +39,6 @@ donorsOf r ls = withSums (donors r ls) ls
 -- the lifts of new round r, with their old and new measures and their donors
 unfoldable pub liftsOf : ℕ → List Lift → List RoundLift
 liftsOf r ls = map (λ l. lift (l .old .measure) (donorNumber (donors r ls) (l .old .round)) (placeAt New l .measure)) (ofRound r ls)
-
--- one place further
-abbrev pub further : Initial → Initial
-further (here i) = here (suc i)
-further elsewhere = elsewhere
-
--- where the held lift of old round t stands among some lifts
-unfoldable pub heldAt : ℕ → List Lift → Initial
-heldAt t [] = elsewhere
-heldAt t (l ∷ ls) = cond (l .held && eqb (l .old .round) t) (here 0) (further (heldAt t ls))
 
 -- where the held lifts of some donors stand among some lifts
 abbrev pub heldAmong : List ℕ → List Lift → Held

@@ -14,11 +14,11 @@ use Rattle.sheet.specs.Tables.{bits}
 
 -- ---- the lowest bit, and the others
 
-low : (b : Bool) (x : ℕ) → (indicator b + 2 * x) % 2 ≡ indicator b
+pub low : (b : Bool) (x : ℕ) → (indicator b + 2 * x) % 2 ≡ indicator b
 low true x = omega arith
 low false x = omega arith
 
-high : (b : Bool) (x : ℕ) → (indicator b + 2 * x) / 2 ≡ x
+pub high : (b : Bool) (x : ℕ) → (indicator b + 2 * x) / 2 ≡ x
 high true x = omega arith
 high false x = omega arith
 
@@ -54,6 +54,12 @@ or-assoc =
     bin-ind (λ a. (b c : ℕ) → bitOr (bitOr a b) c ≡ bitOr a (bitOr b c)) (λ b c. refl)
     (λ a ih b c. rw (or-step (bitOr a b) c, or-step a (bitOr b c), or-shr a b 1, or-shr b c 1, ih) (omega (arith, or-low a b, or-low b c)))
 
+-- it has the same bits where the tests agree
+pub bits-ext : (n : ℕ) {p q : ℕ → Bool} → ((t : ℕ) → t < n → p t ≡ q t) → bits n p ≡ bits n q
+unfolding bits
+bits-ext zero h = refl
+bits-ext (suc n) h = rw (h 0 (omega arith), bits-ext n (λ t l. h (suc t) (omega arith)))
+
 -- ---- no bit, and one
 
 -- where no bit is set
@@ -76,11 +82,10 @@ not-both true true h = absurd (h refl refl)
 not-both true false h = refl
 not-both false b h = refl
 
--- the bit of round r among the n from f up, for measure m
-module _ (n r m f : ℕ) where
-  pub bit-none : ((t : ℕ) → t < n → r ≡ f + t → 0 < m → ⊥) → bits n (λ t. eqb r (f + t) && ltb 0 m) ≡ 0
-  bit-none h = bits-none n (λ t l. not-both _ _ (λ x y. h t l (eqb-true _ _ x) (ltb-true _ _ y)))
+-- bit k of n, for measure m
+module _ (n k m : ℕ) where
+  pub bit-none : m ≡ 0 → bits n (λ t. eqb k t && ltb 0 m) ≡ 0
+  bit-none e = bits-none n (λ t l. not-both (eqb k t) (ltb 0 m) (λ x y. omega (arith, ltb-true 0 m y)))
 
-  pub bit-one : (k : ℕ) → k < n → r ≡ f + k → 0 < m → bits n (λ t. eqb r (f + t) && ltb 0 m) ≡ 2 ^ k
-  bit-one k l e g =
-      bits-one n k l (rw (eq-eqb r (f + k) e, lt-ltb 0 m g)) (λ t d. not-both (eqb r (f + t)) (ltb 0 m) (λ x y. d (omega (arith, eqb-true r (f + t) x))))
+  pub bit-one : k < n → 0 < m → bits n (λ t. eqb k t && ltb 0 m) ≡ 2 ^ k
+  bit-one l g = bits-one n k l (rw (eq-eqb k k refl, lt-ltb 0 m g)) (λ t d. not-both (eqb k t) (ltb 0 m) (λ x y. d (omega (arith, eqb-true k t x))))

@@ -7,8 +7,9 @@ pub mod Tables
 pub mod Bits
 pub mod Those
 pub mod Searches
+pub mod Filling
 pub mod Sending
-pub mod Placing
+pub mod Surveys
 pub mod Numbers
 pub mod Verdicts
 pub mod Worked

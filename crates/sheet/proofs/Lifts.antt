@@ -11,7 +11,7 @@ use borrow.Author.Tests.{eq-eqb, ne-eqb}
 use Rattle.laws.specs.Sum.{indicator}
 use Rattle.sheet.specs.Sheet.{notCounted, kind, payload, heldKind, placeOf, Lift, liftOf}
 use Rattle.sheet.specs.Rounds.{filledIn, placeAt}
-use Rattle.sheet.specs.Tables.{writtenAt, fieldOf}
+use Rattle.sheet.specs.Tables.{writtenAt, fieldOf, entryOf}
 use Rattle.sheet.specs.declared.Side.{Side}
 use Rattle.sheet.specs.declared.Side.the-variants.{Old, New}
 use Rattle.sheet.specs.declared.Field.{Field}
@@ -57,3 +57,10 @@ module _ (ws : List ℕ) (i : ℕ) where
 
   pub same-field : {f g : Field} {x : ℕ} → f ≡ g → x ≡ fieldOf g (liftOf (drop i ws)) → x ≡ fieldOf f (liftOf (drop i ws))
   same-field e h = rw e h
+
+  -- the whole lift
+  pub entry-told : {number from old to new written : ℕ} {held : Bool} → number ≡ payload (getD ws i 0) → from ≡ placeOf (getD ws (i + 1) 0) .round
+      → old ≡ placeOf (getD ws (i + 1) 0) .measure → to ≡ placeOf (getD ws (i + 2) 0) .round → written ≡ placeOf (getD ws (i + 2) 0) .measure
+      → new ≡ filledIn old written → held ≡ eqb (kind (getD ws (i + 3) 0)) heldKind
+      → record { number = number; from = from; old = old; to = to; new = new; held = held } ≡ entryOf (liftOf (drop i ws))
+  entry-told a b c d e f g = rw (a, b, f, c, d, e, g, getD-drop i ws 0 0, getD-drop i ws 1 0, getD-drop i ws 2 0, getD-drop i ws 3 0, add-zero)

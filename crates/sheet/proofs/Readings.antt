@@ -1,15 +1,16 @@
 -- The laws of a word's fault, by what it tells, and of the loop over the words of a sheet: one for each way out of a turn, and two for the end.
-use Prim.Native.Nat.{ℕ, zero, suc, _+_, _≤_, _<_}
+use Prim.Native.Nat.{ℕ, zero, suc, _+_, _*_, _^_, _≤_, _<_}
 use mathlib.Core.Path.{_≡_, refl}
-use mathlib.Core.Bool.{Bool, true, false, cond, _||_, true≢false}
+use mathlib.Core.Bool.{Bool, true, false, cond, not, _&&_, _||_, true≢false}
 use mathlib.Core.List.{List}
+use native.Mathlib.Nat.{add-assoc}
 use native.Mathlib.Numerals.{add-one}
 use native.Mathlib.Omega.{arith}
 use lib.Dec.{eqb}
 use lib.ListN.{length, getD, drop, drop-of-length-le}
 use lib.Seq.{drop-cons}
-use borrow.Author.Tests.{eq-eqb, ne-eqb, eqb-true}
-use Rattle.sheet.specs.Sheet.{kind, liftKind, oldKind, newKind, endKind}
+use borrow.Author.Tests.{le-ltb, eq-eqb, ne-eqb, eqb-true}
+use Rattle.sheet.specs.Sheet.{mostRounds, largestSum, notCounted, kind, placeOf, liftKind, oldKind, newKind, endKind}
 use Rattle.sheet.specs.Reading.{next, follows, misnumbered, isPlace, misplaced, uncountedNewcomer, miscounted, mismarked, fault, numbered, Reading, faulty, sound, unless, readFrom, reading}
 use Rattle.sheet.specs.Refusal.{toldOfWords}
 use Rattle.sheet.specs.declared.Before.{Before}
@@ -49,6 +50,38 @@ module _ (s : Before) (w : ℕ) (f : follows (s .kind) (kind w) ≡ true) where
       go false p true q h = absurd (true≢false h)
       go false p false q h = rw (f, p, q)
 
+-- ---- a lift's three words
+
+-- what is known of a word that tells a place of kind k and is counted
+abbrev Counted : (k w : ℕ) → Type 0
+Counted k w = (kind w ≡ k) × (misplaced w ≡ false) × (placeOf w .measure ≤ largestSum)
+
+-- nothing passes a test that fails
+neither : (t : Bool) → (t && false) ≡ false
+neither true = refl
+neither false = refl
+
+module _ (k w : ℕ) (small : placeOf w .measure ≤ largestSum) where
+  -- a round that there is, and a measure only beside one
+  within : placeOf w .round ≤ mostRounds → (eqb (placeOf w .round) 0 && not (eqb (placeOf w .measure) 0)) ≡ false → misplaced w ≡ false
+  within l e = rw (le-ltb mostRounds (placeOf w .round) l, le-ltb largestSum (placeOf w .measure) small, e) (neither (isPlace (kind w)))
+
+  -- a word with a round, and one with neither round nor measure
+  pub with-round : k * 2 ^ 28 + 2 ^ 21 ≤ w → w < k * 2 ^ 28 + (mostRounds + 1) * 2 ^ 21 → Counted k w
+  with-round l h = (omega arith, within (omega arith) (rw (ne-eqb (placeOf w .round) 0 (omega arith))), small)
+
+  pub with-neither : w ≡ k * 2 ^ 28 → Counted k w
+  with-neither e = (omega arith, within (omega arith) (rw (eq-eqb (placeOf w .round) 0 (omega arith), eq-eqb (placeOf w .measure) 0 (omega arith))), small)
+
+-- words of a lift none of which is faulty
+pub sound-lift : (s : Before) (a b c : ℕ) → follows (s .kind) liftKind ≡ true → kind a ≡ liftKind → misnumbered s a ≡ false → Counted oldKind b → Counted newKind c
+    → (fault s a ≡ 0) × (fault (next s a) b ≡ 0) × (fault (next (next s a) b) c ≡ 0)
+sound-lift s a b c f k n o p = (
+  rw (other-fault s a (rw k f) (rw k), n, k),
+  rw (place-fault (next s a) b (rw (k, o .0)) (rw (o .0)), o .1, o .0),
+  rw (place-fault (next (next s a) b) c (rw (o .0, p .0)) (rw (p .0)), p .1, p .0, ne-eqb (placeOf c .measure) notCounted (omega arith), neither),
+)
+
 -- ---- the loop
 
 -- the loop's invariant: reading on from word i, with s told before it, reads the sheet, and s tells no more lifts than words
@@ -57,9 +90,12 @@ pub record Kept (ws : List ℕ) (s : Before) (i : ℕ) : Type 0 where
   pub few : s .lifts ≤ i
 
 -- a word is at most one lift more
-more : (t : Bool) {n i : ℕ} → n ≤ i → cond t (n + 1) n ≤ i + 1
-more true h = omega arith
-more false h = omega arith
+pub one-more : (s : Before) (w : ℕ) {t : Before} {i : ℕ} → t ≡ next s w → s .lifts ≤ i → t .lifts ≤ i + 1
+one-more s w n h = rw n (more (eqb (kind w) liftKind) h)
+  where
+    more : (t : Bool) {n i : ℕ} → n ≤ i → cond t (n + 1) n ≤ i + 1
+    more true h = omega arith
+    more false h = omega arith
 
 module _ {ws : List ℕ} {s : Before} {i : ℕ} {r : Judged} where
   -- a turn whose word is judged x
@@ -74,7 +110,18 @@ module _ {ws : List ℕ} {s : Before} {i : ℕ} {r : Judged} where
 
   pub goes-on : {t : Before} → i < length ws → Kept ws s i → toldOfWords r ≡ unless (fault s (getD ws i 0)) i sound → r ≡ Sound
       → t ≡ next s (getD ws i 0) → Kept ws t (i + 1)
-  goes-on h k j e n = rw n (record { same = turn h k j e; few = more (eqb (kind (getD ws i 0)) liftKind) (k .few) })
+  goes-on h k j e n = record { same = rw n (turn h k j e); few = one-more s _ n (k .few) }
+
+-- three turns at once, each by a word that is not faulty
+module _ {ws : List ℕ} {s t u v : Before} {i : ℕ} where
+  pub goes-on-three : i + 2 < length ws → Kept ws s i
+      → (fault s (getD ws i 0) ≡ 0) × (fault (next s (getD ws i 0)) (getD ws (i + 1) 0) ≡ 0) × (fault (next (next s (getD ws i 0)) (getD ws (i + 1) 0)) (getD ws (i + 2) 0) ≡ 0)
+      → t ≡ next s (getD ws i 0) → u ≡ next t (getD ws (i + 1) 0) → v ≡ next u (getD ws (i + 2) 0) → Kept ws v (i + 3)
+  goes-on-three h k f p q r =
+      let a : Kept ws t (i + 1) = goes-on {r = Sound} (omega arith) k (rw (f .0)) refl p in
+      let b : Kept ws u (i + 1 + 1) = goes-on {r = Sound} (omega arith) a (rw (p, f .1)) refl q in
+      let c : Kept ws v (i + 2 + 1) = goes-on {r = Sound} (omega arith) (rw (add-assoc i 1 1) at b) (rw (q, p, f .2)) refl r in
+      rw (add-assoc i 2 1) at c
 
 module _ {ws : List ℕ} {s : Before} {i : ℕ} (past : length ws ≤ i) (kept : Kept ws s i) where
   -- past the last word the kind decides

@@ -1,5 +1,5 @@
 -- The donors of a round as bits: joining the bits of its lifts gives those of its donors, and counting them counts the donors.
-use Prim.Native.Nat.{ℕ, _+_, _-_, _*_, _<_}
+use Prim.Native.Nat.{ℕ, _+_, _-_, _*_, _/_, _%_, _≤_, _<_}
 use mathlib.Core.Path.{_≡_, refl, sym, ap, _∙_}
 use mathlib.Core.Bool.{Bool, true, false, cond, _&&_, and-false}
 use mathlib.Core.List.{List, [], _∷_}
@@ -8,50 +8,89 @@ use native.Mathlib.Omega.{arith}
 use lib.Bits.{bitOr, or-zero-l, or-zero-r}
 use lib.Count.{ones}
 use lib.Dec.{eqb, ltb}
-use lib.ListN.{length}
-use borrow.Author.Tests.{le-ltb, ne-eqb, eqb-true}
+use lib.ListN.{length, getD}
+use borrow.Author.Tests.{le-ltb, eq-eqb, ne-eqb, eqb-true, eqb-false}
 use Rattle.laws.specs.Sum.{over, Σ, indicator}
 use Rattle.laws.proofs.Sums.{over-ext, Σ-cut, Σ-const}
 use Rattle.sheet.specs.Sheet.{mostRounds, oldKind, Lift, lifts}
 use Rattle.sheet.specs.Reading.{Legible}
 use Rattle.sheet.specs.Rounds.{comes, sends, donors}
-use Rattle.sheet.specs.Tables.{bits, bitOf}
+use Rattle.sheet.specs.Tables.{bits, bitOf, donorsOf}
 use Rattle.sheet.specs.Law.{Placed, Listed}
-use Rattle.sheet.proofs.Bits.{bits-or, bits-none, bits-ones, or-assoc}
+use Rattle.sheet.proofs.Bits.{bits-or, bits-ext, bits-none, bits-ones, or-assoc}
 use Rattle.sheet.proofs.Those.{those-count}
-use Rattle.sheet.proofs.Tables.{Folds}
+use Rattle.sheet.proofs.Tables.{getD-tabulate, Folds}
 use Rattle.sheet.proofs.Trips.{read-theorem}
 
 -- ---- gathered
 
-pub donates : (first : ℕ)
-    → Folds bitOr (λ l. l .new .round) (λ l. bitOf (l .old .round) (l .old .measure) first) (λ r ls. bits 64 (λ t. sends (first + t) r ls))
+-- a lift's word among the pairs of words, one pair for each new round
+abbrev pub wordOf : Lift → ℕ
+wordOf l = 2 * l .new .round + l .old .round / 64
+
+-- the bit that a lift adds to word k: that of its old round, if k is its word
+module _ (l : Lift) (h : l .old .round ≤ mostRounds) where
+  inside : (k t : ℕ) → t < 64 → wordOf l ≡ k → comes (64 * (k % 2) + t) (k / 2) l ≡ (eqb (l .old .round % 64) t && ltb 0 (l .old .measure))
+  inside k t lt e =
+      let a : k / 2 ≡ l .new .round = omega arith in
+      let b : k % 2 ≡ l .old .round / 64 = omega arith in
+      rw (a, b, eq-eqb (l .new .round) (l .new .round) refl) (ap (λ x. x && ltb 0 (l .old .measure)) (go (eqb (l .old .round % 64) t) refl))
+    where
+      go : (x : Bool) → eqb (l .old .round % 64) t ≡ x → eqb (l .old .round) (64 * (l .old .round / 64) + t) ≡ x
+      go true q = eq-eqb (l .old .round) (64 * (l .old .round / 64) + t) (omega (arith, eqb-true (l .old .round % 64) t q))
+      go false q = ne-eqb (l .old .round) (64 * (l .old .round / 64) + t) (λ z. eqb-false (l .old .round % 64) t q (omega (arith, z)))
+
+  outside : (k t : ℕ) → t < 64 → (wordOf l ≡ k → ⊥) → comes (64 * (k % 2) + t) (k / 2) l ≡ false
+  outside k t lt n = go (eqb (l .old .round) (64 * (k % 2) + t)) refl (eqb (l .new .round) (k / 2)) refl
+    where
+      go : (x : Bool) → eqb (l .old .round) (64 * (k % 2) + t) ≡ x → (y : Bool) → eqb (l .new .round) (k / 2) ≡ y → x && (y && ltb 0 (l .old .measure)) ≡ false
+      go true p true q = absurd (n (omega (arith, eqb-true (l .old .round) (64 * (k % 2) + t) p, eqb-true (l .new .round) (k / 2) q)))
+      go true p false q = refl
+      go false p y q = refl
+
+  added : (k : ℕ) → bits 64 (λ t. comes (64 * (k % 2) + t) (k / 2) l) ≡ cond (eqb (wordOf l) k) (bitOf (l .old .round) (l .old .measure)) 0
+  added k = go (eqb (wordOf l) k) refl
+    where
+      go : (x : Bool) → eqb (wordOf l) k ≡ x → bits 64 (λ t. comes (64 * (k % 2) + t) (k / 2) l) ≡ cond x (bitOf (l .old .round) (l .old .measure)) 0
+      go true q = bits-ext 64 (λ t lt. inside k t lt (eqb-true (wordOf l) k q))
+      go false q = bits-none 64 (λ t lt. outside k t lt (eqb-false (wordOf l) k q))
+
+pub donates : Folds bitOr wordOf (λ l. bitOf (l .old .round) (l .old .measure)) (λ k ls. bits 64 (λ t. sends (64 * (k % 2) + t) (k / 2) ls))
 unfolding sends
-donates first =
+donates =
     record {
       assoc = or-assoc;
       left = or-zero-l;
       right = or-zero-r;
-      none = λ r. bits-none 64 (λ t l. refl);
-      some = λ r l ls.
-          sym (bits-or 64 (λ t. comes (first + t) r l) (λ t. sends (first + t) r ls))
-          ∙ ap (λ x. bitOr x (bits 64 (λ t. sends (first + t) r ls))) (one l (eqb (l .new .round) r));
+      none = λ k. bits-none 64 (λ t l. refl);
+      some = λ k l ls h.
+          sym (bits-or 64 (λ t. comes (64 * (k % 2) + t) (k / 2) l) (λ t. sends (64 * (k % 2) + t) (k / 2) ls))
+          ∙ ap (λ x. bitOr x (bits 64 (λ t. sends (64 * (k % 2) + t) (k / 2) ls))) (added l h k);
     }
-  where
-    one : (l : Lift) (t : Bool)
-        → bits 64 (λ k. eqb (l .old .round) (first + k) && (t && ltb 0 (l .old .measure))) ≡ cond t (bitOf (l .old .round) (l .old .measure) first) 0
-    one l true = refl
-    one l false = bits-none 64 (λ k h. and-false (eqb (l .old .round) (first + k)))
+
+-- the two words of a new round
+module _ (ls : List Lift) (r : ℕ) (h : r ≤ mostRounds) where
+  pub low-word : getD (donorsOf ls) (2 * r) 0 ≡ bits 64 (λ t. sends (0 + t) r ls)
+  low-word =
+      let a : 2 * r % 2 ≡ 0 = omega arith in
+      let b : 2 * r / 2 ≡ r = omega arith in
+      getD-tabulate (2 * (mostRounds + 1)) _ (2 * r) (omega arith) ∙ rw (a, b)
+
+  pub high-word : getD (donorsOf ls) (2 * r + 1) 0 ≡ bits 64 (λ t. sends (64 + t) r ls)
+  high-word =
+      let a : (2 * r + 1) % 2 ≡ 1 = omega arith in
+      let b : (2 * r + 1) / 2 ≡ r = omega arith in
+      getD-tabulate (2 * (mostRounds + 1)) _ (2 * r + 1) (omega arith) ∙ rw (a, b)
 
 -- ---- counted
 
-sends-none : (t r : ℕ) → ((l : Lift) → Placed oldKind (l .old) → comes t r l ≡ false) → (n : ℕ) (ls : List Lift) → Listed n ls → sends t r ls ≡ false
+pub sends-none : (t r : ℕ) → ((l : Lift) → Placed oldKind (l .old) → comes t r l ≡ false) → (n : ℕ) (ls : List Lift) → Listed n ls → sends t r ls ≡ false
 unfolding sends Listed
 sends-none t r h n [] d = refl
 sends-none t r h n (l ∷ ls) d = rw (h l (d .0 .old)) (sends-none t r h (l .number) ls (d .1))
 
 -- a newcomer brings no measure
-from-nowhere : (r : ℕ) (l : Lift) → Placed oldKind (l .old) → comes 0 r l ≡ false
+pub from-nowhere : (r : ℕ) (l : Lift) → Placed oldKind (l .old) → comes 0 r l ≡ false
 from-nowhere r l p = go (eqb (l .old .round) 0) refl
   where
     go : (t : Bool) → eqb (l .old .round) 0 ≡ t → t && (eqb (l .new .round) r && ltb 0 (l .old .measure)) ≡ false
@@ -59,7 +98,7 @@ from-nowhere r l p = go (eqb (l .old .round) 0) refl
     go false e = refl
 
 -- and no lift comes from a round beyond the last
-from-beyond : (t r : ℕ) → mostRounds < t → (l : Lift) → Placed oldKind (l .old) → comes t r l ≡ false
+pub from-beyond : (t r : ℕ) → mostRounds < t → (l : Lift) → Placed oldKind (l .old) → comes t r l ≡ false
 from-beyond t r h l p = rw (ne-eqb (l .old .round) t (λ e. omega (arith, p .round)))
 
 one-term : (f : ℕ → ℕ) → Σ 1 f ≡ f 0 + 0

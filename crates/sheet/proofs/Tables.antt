@@ -13,7 +13,7 @@ use borrow.Author.Tests.{eq-eqb, eqb-true, eqb-false}
 use Rattle.laws.specs.Sum.{totalBy, indicator}
 use Rattle.sheet.specs.Sheet.{mostRounds, notCounted, kind, liftKind, heldKind, placeOf, Lift, liftOf, lifts}
 use Rattle.sheet.specs.Reading.{Legible}
-use Rattle.sheet.specs.Tables.{tabulate, table, fieldOf}
+use Rattle.sheet.specs.Tables.{tabulate, fieldOf}
 use Rattle.sheet.specs.declared.Side.{Side}
 use Rattle.sheet.specs.declared.Side.the-variants.{Old, New}
 use Rattle.sheet.specs.declared.Field.{Field}
@@ -44,18 +44,18 @@ getD-zeros (suc n) (suc r) = getD-zeros n r
 
 -- ---- gathering by key
 
--- the whole of each round is what its lifts add, one after another
+-- the whole of each key is what the lifts with that key add, one after another
 pub record Folds (op : ℕ → ℕ → ℕ) (key value : Lift → ℕ) (whole : ℕ → List Lift → ℕ) : Type 0 where
   pub assoc : (a b c : ℕ) → op (op a b) c ≡ op a (op b c)
   pub left : (a : ℕ) → op 0 a ≡ a
   pub right : (a : ℕ) → op a 0 ≡ a
   pub none : (r : ℕ) → whole r [] ≡ 0
-  pub some : (r : ℕ) (l : Lift) (ls : List Lift) → whole r (l ∷ ls) ≡ op (cond (eqb (key l) r) (value l) 0) (whole r ls)
+  pub some : (r : ℕ) (l : Lift) (ls : List Lift) → l .old .round ≤ mostRounds → whole r (l ∷ ls) ≡ op (cond (eqb (key l) r) (value l) 0) (whole r ls)
 
--- the lifts before position i are gathered in a table
-pub record Gathered (op : ℕ → ℕ → ℕ) (whole : ℕ → List Lift → ℕ) (ws tbl : List ℕ) (i : ℕ) : Type 0 where
+-- the lifts before position i are gathered in a table of n numbers
+pub record Gathered (n : ℕ) (op : ℕ → ℕ → ℕ) (whole : ℕ → List Lift → ℕ) (ws tbl : List ℕ) (i : ℕ) : Type 0 where
   pub between : Between ws i
-  pub long : length tbl ≡ mostRounds + 1
+  pub long : length tbl ≡ n
   pub same : (r : ℕ) → op (getD tbl r 0) (whole r (lifts (drop i ws))) ≡ whole r (lifts ws)
 
 module _ {op : ℕ → ℕ → ℕ} {key value : Lift → ℕ} {whole : ℕ → List Lift → ℕ} (f : Folds op key value whole) where
@@ -67,25 +67,39 @@ module _ {op : ℕ → ℕ → ℕ} {key value : Lift → ℕ} {whole : ℕ → 
       go true e = rw (← eqb-true k r e) (getD-set-same tbl k (op (getD tbl k 0) v) 0 h)
       go false e = getD-set-other tbl k r (op (getD tbl k 0) v) 0 (λ q. eqb-false k r e (sym q)) ∙ sym (f .right _)
 
-  pub gather-none : {ws tbl : List ℕ} → Legible ws → tbl ≡ replicate (mostRounds + 1) 0 → Gathered op whole ws tbl 0
-  gather-none {ws} l e =
-      record { between = between-none l; long = ap length e ∙ length-replicate {A = ℕ} (mostRounds + 1) 0; same = λ r. ap (λ x. op x (whole r (lifts ws))) (ap (λ t. getD t r 0) e ∙ getD-zeros (mostRounds + 1) r) ∙ f .left _ }
+  pub gather-none : {n : ℕ} {ws tbl : List ℕ} → Legible ws → tbl ≡ replicate n 0 → Gathered n op whole ws tbl 0
+  gather-none {n} {ws} l e =
+      record { between = between-none l; long = ap length e ∙ length-replicate {A = ℕ} n 0; same = λ r. ap (λ x. op x (whole r (lifts ws))) (ap (λ t. getD t r 0) e ∙ getD-zeros n r) ∙ f .left _ }
 
-  module _ {ws tbl : List ℕ} {i : ℕ} (g : Gathered op whole ws tbl i) where
-    pub gather-turn : {tbl′ : List ℕ} {k v m : ℕ} → i + 1 < length ws → k ≡ key (liftOf (drop i ws)) → v ≡ value (liftOf (drop i ws))
-        → k < mostRounds + 1 → tbl′ ≡ set tbl k (op (getD tbl k 0) v) → m ≡ indicator (liftOf (drop i ws) .held) → Gathered op whole ws tbl′ (i + (3 + m))
-    gather-turn {tbl′} {k} {v} {m} h ek ev lt et em =
+  module _ {n : ℕ} {ws tbl : List ℕ} {i : ℕ} (g : Gathered n op whole ws tbl i) where
+    -- what a table and the lifts behind one would give, where they give what they did with it
+    past : {tbl′ : List ℕ} → i + 1 < length ws → length tbl′ ≡ n
+        → ((r : ℕ) → getD tbl′ r 0 ≡ op (getD tbl r 0) (cond (eqb (key (liftOf (drop i ws))) r) (value (liftOf (drop i ws))) 0)) → Gathered n op whole ws tbl′ (behind ws i)
+    past h long e =
         let t = turn (g .between) h in
-        let long : k < length tbl = rw (g .long) lt in
-        rw (em, et) (record {
+        record {
           between = t .next;
-          long = simp length-set (g .long);
+          long = long;
           same = λ r.
-              ap (λ x. op x (whole r (lifts (drop (behind ws i) ws)))) (bump tbl k v r long) ∙ f .assoc _ _ _
-              ∙ ap (op (getD tbl r 0)) (rw (ek, ev) (sym (ap (whole r) (t .here) ∙ f .some r (liftOf (drop i ws)) _))) ∙ g .same r;
-        })
+              ap (λ x. op x (whole r (lifts (drop (behind ws i) ws)))) (e r) ∙ f .assoc _ _ _
+              ∙ ap (op (getD tbl r 0)) (sym (ap (whole r) (t .here) ∙ f .some r (liftOf (drop i ws)) _ (t .old .round))) ∙ g .same r;
+        }
 
-    pub gather-end : length ws ≤ i + 1 → tbl ≡ table (λ r. whole r (lifts ws))
+    -- a lift adds its value to its key's number
+    pub gather-turn : {tbl′ : List ℕ} {k v : ℕ} → i + 1 < length ws → k ≡ key (liftOf (drop i ws)) → v ≡ value (liftOf (drop i ws))
+        → k < n → tbl′ ≡ set tbl k (op (getD tbl k 0) v) → Gathered n op whole ws tbl′ (behind ws i)
+    gather-turn {tbl′} {k} {v} h ek ev lt et =
+        past h (ap length et ∙ simp length-set (g .long)) (λ r. rw (et, ← ek, ← ev) (bump tbl k v r (rw (g .long) lt)))
+
+    -- and one without a value adds nothing
+    pub gather-past : i + 1 < length ws → value (liftOf (drop i ws)) ≡ 0 → Gathered n op whole ws tbl (behind ws i)
+    gather-past h e = past h (g .long) (λ r. sym (rw e (nothing (eqb (key (liftOf (drop i ws))) r) ∙ f .right _)))
+      where
+        nothing : (t : Bool) {x : ℕ} → op x (cond t 0 0) ≡ op x 0
+        nothing true = refl
+        nothing false = refl
+
+    pub gather-end : length ws ≤ i + 1 → tbl ≡ tabulate n (λ r. whole r (lifts ws))
     gather-end h =
         tabulated (λ r. whole r (lifts ws)) (g .long)
         (λ r p. sym (f .right _) ∙ ap (op (getD tbl r 0)) (sym (ap (whole r) (last (g .between) h) ∙ f .none r)) ∙ g .same r)
@@ -93,14 +107,14 @@ module _ {op : ℕ → ℕ → ℕ} {key value : Lift → ℕ} {whole : ℕ → 
 -- sums
 pub adds : (side : Side) (field : Field) → Folds _+_ (fieldOf (Round side)) (fieldOf field) (λ r ls. totalBy (fieldOf (Round side)) (fieldOf field) r ls)
 unfolding totalBy
-adds side field = record { assoc = add-assoc; left = zero-add; right = add-zero; none = λ r. refl; some = λ r l ls. refl }
+adds side field = record { assoc = add-assoc; left = zero-add; right = add-zero; none = λ r. refl; some = λ r l ls h. refl }
 
 -- the field of the lifts before position i is added up in a table
 abbrev pub Tallied : Side → Field → List ℕ → List ℕ → ℕ → Type 0
-Tallied side field = Gathered _+_ (λ r ls. totalBy (fieldOf (Round side)) (fieldOf field) r ls)
+Tallied side field = Gathered (mostRounds + 1) _+_ (λ r ls. totalBy (fieldOf (Round side)) (fieldOf field) r ls)
 
 -- no field is above 2^28
-field-le : (field : Field) (ws : List ℕ) → fieldOf field (liftOf ws) ≤ 2 ^ 28
+pub field-le : (field : Field) (ws : List ℕ) → fieldOf field (liftOf ws) ≤ 2 ^ 28
 field-le Number ws = omega arith
 field-le (Round Old) ws = omega arith
 field-le (Round New) ws = omega arith

@@ -3,7 +3,7 @@ use Prim.Native.Nat.{ℕ, zero, suc, _+_, _-_, _≤_, _<_}
 use mathlib.Core.Path.{_≡_, refl, sym, ap, ap₂, _∙_}
 use mathlib.Core.Bool.{Bool, true, false, cond, false≢true}
 use mathlib.Core.Logic.{⊎-elim}
-use mathlib.Core.List.{List, [], _∷_, cons≢nil, nil≢cons, List·Memᴰ, List·Memᴰ·head, List·Memᴰ·tail, List·Memᴰ·not-nil, List·Memᴰ·cases-cons}
+use mathlib.Core.List.{List, [], _∷_, _++_, cons≢nil, nil≢cons, List·Memᴰ, List·Memᴰ·head, List·Memᴰ·tail, List·Memᴰ·not-nil, List·Memᴰ·cases-cons}
 use native.Mathlib.Nat.{add-zero}
 use native.Mathlib.Numerals.{add-one}
 use native.Mathlib.Omega.{arith}
@@ -30,6 +30,22 @@ those-count p a (suc n) =
     length-cond (p a) a (those p (suc a) n)
     ∙ ap₂ _+_ (ap (λ x. indicator (p x)) (sym (add-zero a)))
     (those-count p (suc a) n ∙ over-ext _+_ 0 n (λ t l. let e : suc a + t ≡ a + suc t = omega arith in ap (λ x. indicator (p x)) e))
+
+-- a range in two parts
+pub those-cut : (p : ℕ → Bool) (a m n : ℕ) {b k : ℕ} → b ≡ a + m → k ≡ m + n → those p a k ≡ those p a m ++ those p b n
+unfolding those
+those-cut p a zero n {b} {k} e f =
+    let x : b ≡ a = omega arith in
+    let y : k ≡ n = omega arith in
+    rw (x, y)
+those-cut p a (suc m) n {b} {k} e f =
+    let y : k ≡ suc (m + n) = omega arith in
+    rw y (go (p a) (those-cut p (suc a) m n {b = b} {k = m + n} (omega arith) refl))
+  where
+    go : (t : Bool) → those p (suc a) (m + n) ≡ those p (suc a) m ++ those p b n
+        → cond t (a ∷ those p (suc a) (m + n)) (those p (suc a) (m + n)) ≡ cond t (a ∷ those p (suc a) m) (those p (suc a) m) ++ those p b n
+    go true q = ap (λ l. a ∷ l) q
+    go false q = q
 
 -- there are none where none passes, and none passes where there are none
 pub those-none : (p : ℕ → Bool) (a n : ℕ) → ((t : ℕ) → a ≤ t → t < a + n → p t ≡ false) → those p a n ≡ []

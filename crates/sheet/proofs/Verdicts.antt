@@ -1,27 +1,31 @@
 -- The answer to a sheet: the tests of the code on tables are the document's on lifts, and one law for each way out.
-use Prim.Native.Nat.{ℕ, _+_, _≤_, _<_}
+use Prim.Native.Nat.{ℕ, _+_, _*_, _≤_, _<_}
 use mathlib.Core.Path.{_≡_, refl, sym, ap, ap₂, subst, _∙_}
 use mathlib.Core.Bool.{Bool, true, false, cond, _||_, or-true}
 use mathlib.Core.List.{List, [], _∷_}
 use native.Mathlib.Omega.{arith}
 use mathlib.Core.Logic.{_⊎_, inl, inr}
 use lib.Dec.{eqb, leb, ltb}
+use lib.Count.{ones}
 use lib.ListN.{length, getD}
 use borrow.Author.Tests.{eq-eqb, ne-eqb, lt-ltb, le-ltb, ltb-false}
 use Rattle.sheet.specs.Sheet.{mostRounds, longest, Lift, lifts, sheetOf}
 use Rattle.sheet.specs.Reading.{Numbered, numbered, Reading, faulty, sound, start, reading, ofWords, Legible}
-use Rattle.sheet.specs.Rounds.{rounds, inUse}
-use Rattle.sheet.specs.Refusal.{Verdict, refused, fits, unheld, oversize, unmeasured, crowded, firstRound, ofRounds, unlessFaulty, verdict}
-use Rattle.sheet.specs.Tables.{table, tallyOf, donorsOf, breaks, first}
-use Rattle.sheet.specs.Law.{Fit, Fitting, DecidedTheorem}
+use Rattle.sheet.specs.Rounds.{rounds, donors, inUse}
+use Rattle.sheet.specs.Refusal.{Verdict, refused, fits, unheld, oversize, unmeasured, crowded, firstRound, ofRounds, unlessFaulty, verdict, refusal, told}
+use Rattle.sheet.specs.Tables.{table, tallyOf, donorsOf, donorCounts, breaks, first}
+use Rattle.sheet.specs.Law.{Fit, Fitting, DecidedTheorem, Answered}
 use Rattle.sheet.specs.declared.Side.{Side}
 use Rattle.sheet.specs.declared.Side.the-variants.{Old, New}
 use Rattle.sheet.specs.declared.Field.the-variants.{Measure, Held, Unit}
 use Rattle.sheet.specs.declared.Rule.the-variants.{Unheld, Oversize, Unmeasured, Crowded}
+use Rattle.sheet.specs.declared.Refusal.{Refusal}
+use Rattle.sheet.specs.declared.Checked.the-variants.{Refused}
+use Rattle.sheet.specs.declared.Examined.{Examined}
 use Rattle.sheet.specs.declared.Found.{Found}
 use Rattle.sheet.specs.declared.Found.the-variants.{At, Nothing}
 use Rattle.sheet.proofs.Tables.{getD-tabulate}
-use Rattle.sheet.proofs.Sending.{donors-count}
+use Rattle.sheet.proofs.Sending.{low-word, high-word, donors-count}
 use Rattle.sheet.proofs.Numbers.{Above, above}
 use Rattle.sheet.proofs.Trips.{not-ended, read-theorem, written-theorem}
 use Rattle.sheet.proofs.Those.{those-ext, those-none, none-those}
@@ -51,10 +55,13 @@ module _ (ls : List Lift) {a : List ℕ} where
   pub in-use : {n : ℕ} → a ≡ tallyOf New Unit ls → n ≡ length (rounds (λ t. ltb 0 (getD a t 0))) → n ≡ length (inUse New ls)
   in-use ea e = e ∙ ap length (tested (λ x y. ltb 0 x) _ _ ea ea)
 
-pub found-crowded : {ws a b : List ℕ} {x : Found} → Legible ws → a ≡ donorsOf 0 (lifts ws) → b ≡ donorsOf 64 (lifts ws)
-    → x ≡ first (rounds (λ t. breaks Crowded (getD a t 0) (getD b t 0))) → x ≡ first (rounds (crowded (lifts ws)))
-found-crowded {ws} l ea eb e =
-    e ∙ ap first (tested (breaks Crowded) _ _ ea eb ∙ those-ext 1 mostRounds (λ t _ _. ap (leb 3) (donors-count ws l t)))
+pub found-crowded : {ws words counts : List ℕ} {x : Found} → Legible ws → words ≡ donorsOf (lifts ws) → counts ≡ donorCounts words
+    → x ≡ first (rounds (λ t. breaks Crowded (getD counts t 0) (getD counts t 0))) → x ≡ first (rounds (crowded (lifts ws)))
+found-crowded {ws} {words} l ew ec e =
+    e ∙ ap first (tested (breaks Crowded) _ _ ec ec ∙ those-ext 1 mostRounds (λ t _ h. ap (leb 3) (count t (omega arith))))
+  where
+    count : (r : ℕ) → r ≤ mostRounds → ones (getD words (2 * r) 0) + ones (getD words (2 * r + 1) 0) ≡ length (donors r (lifts ws))
+    count r h = rw (ew, low-word (lifts ws) r h, high-word (lifts ws) r h) (donors-count ws l r)
 
 -- ---- the ways out
 
@@ -190,3 +197,10 @@ pub fits-sheet : {ls : List Lift} → Fit ls → length (sheetOf ls) ≤ longest
 fits-sheet {ls} f h =
     let w = written-theorem ls (f .listable) in
     record { legible = record { short = h; read = w .sound }; rounds = rw (w .back) (f .rounds) }
+
+-- ---- the answer with the tables
+
+-- a sheet that is refused does not fit, so nothing is asked of its tables
+pub answered-refused : {ws : List ℕ} {x : Refusal} {e : Examined} → e .checked ≡ Refused x → refused (refusal x) ≡ verdict ws → Answered ws e
+answered-refused {ws} {x} q h =
+    record { verdict = ap told q ∙ h; tables = λ f. let p = decided ws .passes f in let z : _≡_ {A = ℕ} 0 1 = cc in absurd (omega arith) }

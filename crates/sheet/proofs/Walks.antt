@@ -3,21 +3,17 @@ use Prim.Native.Nat.{ℕ, _+_, _-_, _≤_, _<_}
 use mathlib.Core.Path.{_≡_, refl, sym, ap, subst, _∙_}
 use mathlib.Core.Bool.{Bool, true, false, cond}
 use mathlib.Core.List.{List, [], _∷_, _++_}
-use mathlib.Core.Logic.{_⊎_, inl, inr}
-use native.Mathlib.Nat.{add-zero}
-use borrow.Author.Tests.{eqb-true}
 use lib.Dec.{eqb}
 use native.Mathlib.Omega.{arith}
 use lib.ListN.{length, getD, drop, length-append, length-drop}
-use lib.Seq.{drop-drop, getD-drop, getD-append-add}
+use lib.Seq.{drop-drop, getD-append-add}
 use Rattle.laws.specs.Sum.{indicator}
 use Rattle.laws.proofs.Sums.{indicator-le}
 use Rattle.sheet.specs.Sheet.{mostRounds, kind, payload, liftKind, oldKind, newKind, heldKind, endKind, Lift, liftOf, lifts, word, placeWord, wordsOf, written}
 use Rattle.sheet.specs.Reading.{Legible}
-use Rattle.sheet.specs.Rounds.{placeAt}
+use Rattle.sheet.specs.Tables.{entryOf}
+use Rattle.sheet.specs.declared.Entry.{Entry}
 use Rattle.sheet.specs.Law.{Placed, Proper, Listed}
-use Rattle.sheet.specs.declared.Side.{Side}
-use Rattle.sheet.specs.declared.Side.the-variants.{Old, New}
 use Rattle.sheet.proofs.Trips.{kind-word, payload-word, kind-place, placed-writable, read-theorem}
 
 -- the words of the end of a sheet of n lifts
@@ -42,16 +38,18 @@ behind ws i = i + (3 + indicator (liftOf (drop i ws) .held))
 -- what holds at a lift
 pub record Turn (ws : List ℕ) (i : ℕ) : Type 0 where
   pub room : i + 3 < length ws
-  pub first : kind (getD ws i 0) ≡ liftKind
   pub old : Placed oldKind (liftOf (drop i ws) .old)
   pub new : Placed newKind (liftOf (drop i ws) .new)
   pub here : lifts (drop i ws) ≡ liftOf (drop i ws) ∷ lifts (drop (behind ws i) ws)
   pub next : Between ws (behind ws i)
 
--- a round's number is an index of a table by round
-pub round-lt : {ws : List ℕ} {i k : ℕ} (side : Side) → Turn ws i → k ≡ placeAt side (liftOf (drop i ws)) .round → k < mostRounds + 1
-round-lt Old t e = omega (arith, t .old .round)
-round-lt New t e = omega (arith, t .new .round)
+-- a lift's rounds are indices of a table by round
+module _ {ws : List ℕ} {i : ℕ} {e : Entry} (t : Turn ws i) (q : e ≡ entryOf (liftOf (drop i ws))) where
+  pub entry-from : e .from < mostRounds + 1
+  entry-from = omega (arith, t .old .round, ap (λ x. x .from) q)
+
+  pub entry-to : e .to < mostRounds + 1
+  entry-to = omega (arith, t .new .round, ap (λ x. x .to) q)
 
 -- a turn moves on, and not beyond the words
 pub moved : {ws : List ℕ} {i m : ℕ} → Turn ws i → m ≡ indicator (liftOf (drop i ws) .held) → i + (3 + m) ≤ length ws
@@ -95,10 +93,6 @@ long : (t : Bool) (ws : List ℕ) → length ws ≤ length (cond t (word heldKin
 long true ws = omega arith
 long false ws = omega arith
 
--- the first word left
-head : (i : ℕ) (ws : List ℕ) → getD ws i 0 ≡ getD (drop i ws) 0 0
-head i ws = ap (λ k. getD ws k 0) (sym (add-zero i)) ∙ sym (getD-drop i ws 0 0)
-
 module _ {ws : List ℕ} {i : ℕ} (b : Between ws i) where
   -- the words left, where the lifts left are known
   left : (ls : List Lift) → lifts (drop i ws) ≡ ls → drop i ws ≡ written ls (end (length (lifts ws)))
@@ -126,7 +120,6 @@ module _ {ws : List ℕ} {i : ℕ} (b : Between ws i) where
       ap (λ t. drop (i + (3 + indicator t)) ws) (ap (λ x. x .held) s) ∙ rw (← drop-drop (3 + indicator (l .held)) i ws, q) (drop-one l rest) in
       record {
         room = omega (arith, left-some l ls e);
-        first = ap kind (head i ws) ∙ rw q (kind-word liftKind (l .number) (p .payload));
         old = subst (Placed oldKind) (sym (ap (λ x. x .old) s)) (p .old);
         new = subst (Placed newKind) (sym (ap (λ x. x .new) s)) (p .new);
         here = rw d o;
@@ -156,62 +149,6 @@ module _ {ws : List ℕ} {i : ℕ} (b : Between ws i) where
       go : (ls : List Lift) → lifts (drop i ws) ≡ ls → i < length ws
       go [] e = omega (arith, left-none e)
       go (l ∷ ls) e = omega (arith, left-some l ls e)
-
--- ---- walks that pass over a held word in a step of its own
-
--- position i is j, or that of a held word before j
-abbrev Stands : List ℕ → ℕ → ℕ → Type 0
-Stands ws i j = (i ≡ j) ⊎ ((i + 1 ≡ j) × (kind (getD ws i 0) ≡ heldKind))
-
--- position i stands between lifts, or at the held word before such a place, and something holds of that place
-pub record Near (P : ℕ → Type 0) (ws : List ℕ) (i : ℕ) : Type 0 where
-  pub place : ℕ
-  pub holds : P place
-  pub between : Between ws place
-  pub stands : Stands ws i place
-
-module _ {P : ℕ → Type 0} {ws : List ℕ} {i : ℕ} where
-  pub near-here : P i → Between ws i → Near P ws i
-  near-here p b = record { place = i; holds = p; between = b; stands = inl refl }
-
-  -- behind a lift
-  pub near-turn : P (behind ws i) → Turn ws i → Near P ws (i + 3)
-  near-turn p t = record { place = behind ws i; holds = p; between = t .next; stands = go (liftOf (drop i ws) .held) refl }
-    where
-      go : (h : Bool) → eqb (kind (getD (drop i ws) 3 0)) heldKind ≡ h → Stands ws (i + 3) (i + (3 + indicator h))
-      go true e = inr (omega arith, ap kind (sym (getD-drop i ws 3 0)) ∙ eqb-true _ _ e)
-      go false e = inl (omega arith)
-
-  module _ (n : Near P ws i) where
-    -- a held word is passed over
-    pub near-held : i + 1 < length ws → kind (getD ws i 0) ≡ heldKind → Near P ws (i + 1)
-    near-held h e = go (n .stands)
-      where
-        go : Stands ws i (n .place) → Near P ws (i + 1)
-        go (inl q) = absurd (omega (arith, e, turn (subst (Between ws) (sym q) (n .between)) h .first))
-        go (inr q) = record { place = n .place; holds = n .holds; between = n .between; stands = inl (q .0) }
-
-    -- where there is none, a lift begins
-    pub near-lift : (kind (getD ws i 0) ≡ heldKind → ⊥) → P i
-    near-lift h = go (n .stands)
-      where
-        go : Stands ws i (n .place) → P i
-        go (inl q) = subst P (sym q) (n .holds)
-        go (inr q) = absurd (h (q .1))
-
-    near-le : i ≤ n .place
-    near-le = go (n .stands)
-      where
-        go : Stands ws i (n .place) → i ≤ n .place
-        go (inl q) = omega (arith, q)
-        go (inr q) = omega (arith, q .0)
-
-    -- the end word is never passed
-    pub near-inside : i < length ws
-    near-inside = omega (arith, near-le, inside (n .between))
-
-    pub near-end : length ws ≤ i + 1 → length ws ≤ n .place + 1
-    near-end h = omega (arith, near-le)
 
 -- ---- the end word
 

@@ -7,7 +7,9 @@ use lib.ListN.{length}
 use Rattle.sheet.specs.Sheet.{mostLifts, mostRounds, notCounted, oldKind, newKind, Place, Lift, lifts, sheetOf}
 use Rattle.sheet.specs.Reading.{Numbered, tooLarge, reading, sound, Legible}
 use Rattle.sheet.specs.Rounds.{inUse}
-use Rattle.sheet.specs.Refusal.{refused, fits, unheld, oversize, unmeasured, crowded, verdict}
+use Rattle.sheet.specs.Refusal.{refused, fits, unheld, oversize, unmeasured, crowded, verdict, told}
+use Rattle.sheet.specs.Tables.{Tabled}
+use Rattle.sheet.specs.declared.Examined.{Examined}
 use Rattle.sheet.specs.declared.Side.the-variants.{Old, New}
 
 -- ---- reading and writing
@@ -104,3 +106,10 @@ pub record Decided (ws : List ℕ) : Type 0 where
 
 abbrev pub DecidedTheorem : Type 0
 DecidedTheorem = (ws : List ℕ) → Decided ws
+
+-- ---- the answer with the tables
+
+-- what is answered to a sheet: the verdict and, of a sheet that fits, its tables
+pub record Answered (ws : List ℕ) (e : Examined) : Type 0 where
+  pub verdict : told (e .checked) ≡ verdict ws
+  pub tables : Fitting ws → Tabled (lifts ws) (e .tallies)

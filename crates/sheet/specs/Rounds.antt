@@ -4,6 +4,7 @@ use mathlib.Core.Bool.{Bool, false, cond, _&&_, _||_}
 use mathlib.Core.List.{List, [], _∷_}
 use lib.Dec.{eqb, ltb}
 use Rattle.laws.specs.Sum.{totalBy, indicator}
+use Rattle.laws.specs.Initial.{Initial, here, elsewhere}
 use Rattle.sheet.specs.Sheet.{mostRounds, notCounted, Place, Lift}
 use Rattle.sheet.specs.declared.Side.{Side}
 use Rattle.sheet.specs.declared.Side.the-variants.{Old, New}
@@ -55,7 +56,23 @@ sends t r (l ∷ ls) = comes t r l || sends t r ls
 abbrev pub donors : ℕ → List Lift → List ℕ
 donors r ls = rounds (λ t. sends t r ls)
 
+-- 1 for the first of some donors, 2 for the second, 0 for another old round: "The lower-numbered donor is donor 1."
+abbrev pub donorNumber : List ℕ → ℕ → ℕ
+donorNumber [] t = 0
+donorNumber (d ∷ []) t = cond (eqb d t) 1 0
+donorNumber (d ∷ e ∷ ds) t = cond (eqb d t) 1 (cond (eqb e t) 2 0)
+
 -- the lifts of new round r, in lift order
 unfoldable pub ofRound : ℕ → List Lift → List Lift
 ofRound r [] = []
 ofRound r (l ∷ ls) = cond (eqb (l .new .round) r) (l ∷ ofRound r ls) (ofRound r ls)
+
+-- one place further
+abbrev pub further : Initial → Initial
+further (here i) = here (suc i)
+further elsewhere = elsewhere
+
+-- where the held lift of old round t stands among some lifts
+unfoldable pub heldAt : ℕ → List Lift → Initial
+heldAt t [] = elsewhere
+heldAt t (l ∷ ls) = cond (l .held && eqb (l .old .round) t) (here 0) (further (heldAt t ls))

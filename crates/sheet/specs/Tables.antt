@@ -1,18 +1,20 @@
 -- Tables by round, and the fields of lifts, as the code gathers them.
-use Prim.Native.Nat.{ℕ, zero, suc, _+_, _*_, _≤_}
+use Prim.Native.Nat.{ℕ, zero, suc, _+_, _*_, _/_, _%_}
 use mathlib.Core.Bool.{Bool, not, _&&_}
 use mathlib.Core.Path.{_≡_}
-use mathlib.Core.List.{List, [], _∷_, map}
+use mathlib.Core.List.{List, [], _∷_}
 use lib.Dec.{eqb, leb, ltb}
-use lib.Seq.{slice}
+use lib.ListN.{getD}
 use lib.Count.{ones}
 use Rattle.laws.specs.Sum.{totalBy, indicator}
 use Rattle.sheet.specs.Sheet.{mostRounds, largestSum, Place, Lift}
-use Rattle.sheet.specs.Rounds.{placeAt, sends, ofRound}
+use Rattle.sheet.specs.Rounds.{placeAt, sends}
 use Rattle.sheet.specs.declared.Side.{Side}
 use Rattle.sheet.specs.declared.Side.the-variants.{Old, New}
 use Rattle.sheet.specs.declared.Field.{Field}
 use Rattle.sheet.specs.declared.Field.the-variants.{Number, Round, Measure, Held, Unit}
+use Rattle.sheet.specs.declared.Entry.{Entry}
+use Rattle.sheet.specs.declared.Tallies.{Tallies}
 use Rattle.sheet.specs.declared.Rule.{Rule}
 use Rattle.sheet.specs.declared.Rule.the-variants.{Unheld, Oversize, Unmeasured, Crowded}
 use Rattle.sheet.specs.declared.Found.{Found}
@@ -40,6 +42,18 @@ fieldOf (Measure side) l = placeAt side l .measure
 fieldOf Held l = indicator (l .held)
 fieldOf Unit l = 1
 
+-- a lift as the code reads it
+abbrev pub entryOf : Lift → Entry
+entryOf l =
+    record {
+      number = l .number;
+      from = l .old .round;
+      old = l .old .measure;
+      to = l .new .round;
+      new = placeAt New l .measure;
+      held = l .held;
+    }
+
 -- for each old or new round, the sum of a field over its lifts
 abbrev pub tallyOf : Side → Field → List Lift → List ℕ
 tallyOf side field ls = table (λ r. totalBy (fieldOf (Round side)) (fieldOf field) r ls)
@@ -49,34 +63,34 @@ unfoldable pub bits : ℕ → (ℕ → Bool) → ℕ
 bits zero p = 0
 bits (suc n) p = indicator (p 0) + 2 * bits n (λ t. p (suc t))
 
--- the bit of an old round among the 64 from `first` up, for a lift of some measure
-abbrev pub bitOf : ℕ → ℕ → ℕ → ℕ
-bitOf round measure first = bits 64 (λ t. eqb round (first + t) && ltb 0 measure)
+-- the bit of an old round in its word of 64, for a lift of some measure
+abbrev pub bitOf : (round measure : ℕ) → ℕ
+bitOf round measure = bits 64 (λ t. eqb (round % 64) t && ltb 0 measure)
 
--- for each new round, a bit for each of the 64 old rounds from `first` up: whether it is a donor
-abbrev pub donorsOf : ℕ → List Lift → List ℕ
-donorsOf first ls = table (λ r. bits 64 (λ t. sends (first + t) r ls))
+-- for each new round two words, with a bit for each of the old rounds from 0 up and from 64 up: whether it is a donor
+abbrev pub donorsOf : List Lift → List ℕ
+donorsOf ls = tabulate (2 * (mostRounds + 1)) (λ k. bits 64 (λ t. sends (64 * (k % 2) + t) (k / 2) ls))
 
--- how many lifts have a new round below r: where round r begins when each round's lifts stand together
-unfoldable pub below : ℕ → List Lift → ℕ
-below r [] = 0
-below r (l ∷ ls) = indicator (ltb (l .new .round) r) + below r ls
+-- "the different old rounds that send it measure are counted": how many bits are set in each new round's two words
+abbrev pub donorCounts : List ℕ → List ℕ
+donorCounts words = table (λ r. ones (getD words (2 * r) 0) + ones (getD words (2 * r + 1) 0))
 
--- where each round begins, and where the last one ends
-abbrev pub startsOf : List Lift → List ℕ
-startsOf ls = tabulate (mostRounds + 2) (λ r. below r ls)
-
--- a field of all lifts, each new round's together in lift order
-pub record ByRound (field : Lift → ℕ) (ls : List Lift) (out : List ℕ) : Type 0 where
-  pub parts : (r : ℕ) → r ≤ mostRounds → slice (below r ls) (below (suc r) ls) out ≡ map field (ofRound r ls)
+-- the tables of some lifts
+pub record Tabled (ls : List Lift) (t : Tallies) : Type 0 where
+  pub old-lifts : t .«old_lifts» ≡ tallyOf Old Unit ls
+  pub held : t .held ≡ tallyOf Old Held ls
+  pub old-sums : t .«old_sums» ≡ tallyOf Old (Measure Old) ls
+  pub new-lifts : t .«new_lifts» ≡ tallyOf New Unit ls
+  pub new-sums : t .«new_sums» ≡ tallyOf New (Measure New) ls
+  pub donors : t .donors ≡ donorsOf ls
 
 -- the tests of the refusals of rounds, on two numbers of a round: how many lifts and how many held, the sum, how many lifts and the
--- sum, the two words of donors
+-- sum, how many donors
 abbrev pub breaks : Rule → ℕ → ℕ → Bool
 breaks Unheld lifts held = ltb 0 lifts && not (eqb held 1)
 breaks Oversize sum same = ltb largestSum sum
 breaks Unmeasured lifts sum = ltb 0 lifts && eqb sum 0
-breaks Crowded low high = leb 3 (ones low + ones high)
+breaks Crowded donors same = leb 3 donors
 
 -- the first of some rounds, if there is one
 abbrev pub first : List ℕ → Found

@@ -1,16 +1,18 @@
 // The sheet: its words read, checked and refused ("The sheet" and "Refused because of the sheet" of document 01, with Card 2
 // of document 02), and what a legible sheet tells of its lifts and rounds.
 ghost use mathlib.Core.Path.{_≡_};
-ghost use mathlib.Core.Bool.{cond};
+ghost use mathlib.Core.Bool.{true, false, cond};
 ghost use Prim.Native.Nat.{_+_, _*_, _^_, _≤_, _<_};
+ghost use lib.Count.{ones};
 ghost use lib.Dec.{ltb};
 ghost use lib.ListN.{length, getD, drop};
 ghost use Rattle.laws.specs.Sum.{indicator};
-ghost use Rattle.sheet.specs.Sheet.{longest, kind as kindOf, payload as payloadOf, placeOf, liftOf, lifts, word as wordOf};
+ghost use Rattle.sheet.specs.Sheet.{largestSum, longest, kind as kindOf, payload as payloadOf, placeOf, liftOf, lifts, word as wordOf};
 ghost use Rattle.sheet.specs.Reading.{next as nextOf, follows as followsOf, misnumbered as misnumberedOf, isPlace, tooLarge as tooLargeOf, beyond as beyondOf, misplaced as misplacedOf, uncountedNewcomer as uncountedNewcomerOf, miscounted as miscountedOf, mismarked as mismarkedOf, fault, unless, sound, reading, ofWords, Legible};
-ghost use Rattle.sheet.specs.Rounds.{rounds, filledIn as filledInOf, placeAt, inUse};
-ghost use Rattle.sheet.specs.Refusal.{unheld, crowded, ofRounds, verdict, refusal, told, toldOfWords};
-ghost use Rattle.sheet.specs.Tables.{writtenAt, fieldOf, tallyOf, donorsOf, bitOf, startsOf, ByRound, breaks as breaksOf, first as firstOf};
+ghost use Rattle.sheet.specs.Rounds.{rounds, filledIn as filledInOf, placeAt};
+ghost use Rattle.sheet.specs.Refusal.{ofRounds, verdict, refusal, told, toldOfWords};
+ghost use Rattle.sheet.specs.Tables.{writtenAt, fieldOf, entryOf, bitOf, donorCounts, Tabled, breaks as breaksOf, first as firstOf};
+ghost use Rattle.sheet.specs.Law.{Answered};
 
 // A sheet that fits: how many lifts and how many new rounds it has.
 pub struct Sheet {
@@ -35,6 +37,9 @@ impl Sheet {
     const PAYLOADS: u32 = 0x1000_0000;
 
     const MEASURES: u32 = 0x20_0000;
+
+    // How many rounds a place may tell: 0, and those from 1 up.
+    const ROUNDS: u32 = Self::TABLE as u32;
 
     // The kinds.
     pub const LIFT: u32 = 1;
@@ -176,8 +181,8 @@ pub enum Field {
     Unit,
 }
 
-// The refusals of a round, each from two numbers: how many lifts and how many held, the sum, how many lifts and the sum, the
-// two words of donors.
+// The refusals of a round, each from two numbers: how many lifts and how many held, the sum, how many lifts and the sum, how many
+// donors.
 enum Rule {
     Unheld,
     Oversize,
@@ -185,10 +190,31 @@ enum Rule {
     Crowded,
 }
 
-// The sums of all rounds, by old round and by new round.
-pub struct Sums {
-    pub old: [u64; Sheet::TABLE],
-    pub new: [u64; Sheet::TABLE],
+// A lift as its words tell it: its number, old round and measure, new round and the new measure that counts, and whether it is held.
+pub struct Entry {
+    pub number: u32,
+    pub from: usize,
+    pub old: u64,
+    pub to: usize,
+    pub new: u64,
+    pub held: bool,
+}
+
+// Tables by round: of each old round how many lifts it has, how many of them are held, and its sum; of each new round how many lifts
+// it has, its sum, and two words with a bit for each old round, whether it is a donor.
+pub struct Tallies {
+    pub old_lifts: [u64; Sheet::TABLE],
+    pub held: [u64; Sheet::TABLE],
+    pub old_sums: [u64; Sheet::TABLE],
+    pub new_lifts: [u64; Sheet::TABLE],
+    pub new_sums: [u64; Sheet::TABLE],
+    pub donors: [u64; 2 * Sheet::TABLE],
+}
+
+// The answer to a sheet, and its tables.
+pub struct Examined {
+    pub checked: Checked,
+    pub tallies: Tallies,
 }
 
 // A round or a place that is looked for.
@@ -356,7 +382,43 @@ fn next(s: Before, word: u32) -> Before
     }
 }
 
-// The first faulty word of words that are not too many.
+// Whether a word tells a place of a kind: a round from 1 to 100 with a measure that is counted, or neither.
+fn is_counted_place(kind: u32, word: u32) -> bool
+    requires { ⌜ kind < 16 ⌝ }
+    ensures { λ r. ⌜ (r ≡ true → (kindOf word ≡ kind) × (misplacedOf word ≡ false) × (placeOf word .measure ≤ largestSum)) ⌝ }
+{
+    if Sheet::measure(word) > Sheet::LARGEST_SUM {
+        return false;
+    }
+    let none = Sheet::word(kind, 0);
+    if none < word {
+        if word < none + Sheet::MEASURES {
+            return false;
+        }
+    }
+    none <= word && word < none + Sheet::ROUNDS * Sheet::MEASURES
+}
+
+// Whether three words are those of a lift, and each meets no refusal after those before it.
+fn is_sound_lift(s: Before, lift: u32, old: u32, new: u32) -> bool
+    ensures { λ r. ⌜ (r ≡ true → (fault s lift ≡ 0) × (fault (nextOf s lift) old ≡ 0) × (fault (nextOf (nextOf s lift) old) new ≡ 0)) ⌝ }
+{
+    if !follows(s.kind, Sheet::LIFT) {
+        return false;
+    }
+    if Sheet::kind(lift) != Sheet::LIFT {
+        return false;
+    }
+    if misnumbered(s, lift) {
+        return false;
+    }
+    if !is_counted_place(Sheet::OLD, old) {
+        return false;
+    }
+    is_counted_place(Sheet::NEW, new)
+}
+
+// The first faulty word of words that are not too many; a lift of which none is takes one turn.
 fn read_words(sheet: &[u32]) -> Judged
     requires { ⌜ length (now sheet) ≤ longest ⌝ }
     ensures { λ r. ⌜ toldOfWords r ≡ reading (now (sheet .entry)) ⌝ }
@@ -370,6 +432,15 @@ fn read_words(sheet: &[u32]) -> Judged
     let mut i = 0;
     while i < sheet.len() {
         let word = sheet[i];
+        if i + 2 < sheet.len() {
+            let old = sheet[i + 1];
+            let new = sheet[i + 2];
+            if is_sound_lift(s, word, old, new) {
+                s = next(next(next(s, word), old), new);
+                i += 3;
+                continue;
+            }
+        }
         match judge(s, word, i) {
             Judged::Faulty(x) => {
                 return Judged::Faulty(x);
@@ -454,112 +525,70 @@ pub fn value(sheet: &[u32], i: usize, field: Field) -> u64
     }
 }
 
-// For each old or new round, the sum of a field over its lifts.
-pub fn tally(sheet: &[u32], side: Side, field: Field) -> [u64; Sheet::TABLE]
-    requires { ⌜ Legible (now sheet) ⌝ }
-    ensures { λ r. ⌜ r ≡ tallyOf side field (lifts (now (sheet .entry))) ⌝ }
+// The lift at position i.
+pub fn entry_at(sheet: &[u32], i: usize) -> Entry
+    requires { ⌜ i + 3 < length (now sheet) ⌝ }
+    ensures { λ r. ⌜ r ≡ entryOf (liftOf (drop i (now (sheet .entry)))) ⌝ }
 {
-    let mut sums = [0u64; Sheet::TABLE];
-    let mut i = 0;
-    while i + 1 < sheet.len() {
-        let round = value(sheet, i, Field::Round(side)) as usize;
-        sums[round] += value(sheet, i, field);
-        i += 3 + marks(sheet, i);
+    let old = sheet[i + 1];
+    let new = sheet[i + 2];
+    let measure = Sheet::measure(old);
+    Entry {
+        number: Sheet::payload(sheet[i]),
+        from: Sheet::round(old),
+        old: measure,
+        to: Sheet::round(new),
+        new: filled_in(measure, Sheet::measure(new)),
+        held: Sheet::kind(sheet[i + 3]) == Sheet::HELD,
     }
-    sums
 }
 
-// The sum of each old round and of each new round, in one walk; a held word is passed over in a step of its own.
-pub fn both_sums(sheet: &[u32]) -> Sums
-    requires { ⌜ Legible (now sheet) ⌝ }
-    ensures { λ r. ⌜ r .old ≡ tallyOf Side.Old (Field.Measure Side.Old) (lifts (now (sheet .entry))) ⌝ }
-    ensures { λ r. ⌜ r .new ≡ tallyOf Side.New (Field.Measure Side.New) (lifts (now (sheet .entry))) ⌝ }
+// The bit of an old round in its word, for a lift of some measure.
+fn bit(round: usize, measure: u64) -> u64
+    ensures { λ r. ⌜ r ≡ bitOf round measure ⌝ }
 {
-    let mut old = [0u64; Sheet::TABLE];
-    let mut new = [0u64; Sheet::TABLE];
+    (flag(measure) as u64) << (round as u64 % 64)
+}
+
+// The tables of a legible sheet, in one walk over its lifts.
+fn survey(sheet: &[u32]) -> Tallies
+    requires { ⌜ Legible (now sheet) ⌝ }
+    ensures { λ r. ⌜ Tabled (lifts (now (sheet .entry))) r ⌝ }
+{
+    let mut old_lifts = [0u64; Sheet::TABLE];
+    let mut held = [0u64; Sheet::TABLE];
+    let mut old_sums = [0u64; Sheet::TABLE];
+    let mut new_lifts = [0u64; Sheet::TABLE];
+    let mut new_sums = [0u64; Sheet::TABLE];
+    let mut donors = [0u64; 2 * Sheet::TABLE];
     let mut i = 0;
     while i + 1 < sheet.len() {
-        if Sheet::kind(sheet[i]) == Sheet::HELD {
-            i += 1;
+        let l = entry_at(sheet, i);
+        let from = l.from;
+        let old = l.old;
+        let to = l.to;
+        let new = l.new;
+        let word = 2 * to + from / 64;
+        let bit = bit(from, old);
+        old_lifts[from] += 1;
+        old_sums[from] += old;
+        new_lifts[to] += 1;
+        new_sums[to] += new;
+        donors[word] = donors[word] | bit;
+        if l.held {
+            held[from] += 1;
+            i += 4;
         } else {
-            let from = value(sheet, i, Field::Round(Side::Old)) as usize;
-            let to = value(sheet, i, Field::Round(Side::New)) as usize;
-            old[from] += value(sheet, i, Field::Measure(Side::Old));
-            new[to] += value(sheet, i, Field::Measure(Side::New));
             i += 3;
         }
     }
-    Sums { old, new }
-}
-
-// The bit of an old round among the 64 from `first` up, for a lift that sends measure.
-fn bit(round: u64, measure: u64, first: u64) -> u64
-    ensures { λ r. ⌜ r ≡ bitOf round measure first ⌝ }
-{
-    if measure == 0 {
-        return 0;
-    }
-    if round < first {
-        return 0;
-    }
-    let t = round - first;
-    if t < 64 {
-        return 1 << t;
-    }
-    0
-}
-
-// For each new round, a bit for each of the 64 old rounds from `first` up: whether it is a donor.
-pub fn donors(sheet: &[u32], first: u64) -> [u64; Sheet::TABLE]
-    requires { ⌜ Legible (now sheet) ⌝ }
-    ensures { λ r. ⌜ r ≡ donorsOf first (lifts (now (sheet .entry))) ⌝ }
-{
-    let mut words = [0u64; Sheet::TABLE];
-    let mut i = 0;
-    while i + 1 < sheet.len() {
-        let round = value(sheet, i, Field::Round(Side::New)) as usize;
-        let old = value(sheet, i, Field::Round(Side::Old));
-        let measure = value(sheet, i, Field::Measure(Side::Old));
-        words[round] = words[round] | bit(old, measure, first);
-        i += 3 + marks(sheet, i);
-    }
-    words
-}
-
-// Where each new round begins when each round's lifts stand together, and where the last one ends.
-pub fn starts(sheet: &[u32]) -> [u64; Sheet::TABLE + 1]
-    requires { ⌜ Legible (now sheet) ⌝ }
-    ensures { λ r. ⌜ r ≡ startsOf (lifts (now (sheet .entry))) ⌝ }
-{
-    let counts = tally(sheet, Side::New, Field::Unit);
-    let mut starts = [0u64; Sheet::TABLE + 1];
-    let mut sum: u64 = 0;
-    let mut r = 0;
-    while r < Sheet::TABLE {
-        starts[r] = sum;
-        sum += counts[r];
-        r += 1;
-    }
-    starts[r] = sum;
-    starts
-}
-
-// A field of all lifts, each new round's together in lift order.
-pub fn by_round(sheet: &[u32], field: Field, starts: [u64; Sheet::TABLE + 1], out: &mut [u64])
-    requires { ⌜ Legible (now sheet) ⌝ }
-    requires { ⌜ starts ≡ startsOf (lifts (now sheet)) ⌝ }
-    requires { ⌜ length (now out) ≡ length (lifts (now sheet)) ⌝ }
-    ensures { λ _. ⌜ ByRound (fieldOf field) (lifts (now (sheet .entry))) (now (out .exit)) ⌝ }
-{
-    let mut free = starts;
-    let mut i = 0;
-    while i + 1 < sheet.len() {
-        let round = value(sheet, i, Field::Round(Side::New)) as usize;
-        let at = free[round];
-        let place = at as usize;
-        out[place] = value(sheet, i, field);
-        free[round] = at + 1;
-        i += 3 + marks(sheet, i);
+    Tallies {
+        old_lifts,
+        held,
+        old_sums,
+        new_lifts,
+        new_sums,
+        donors,
     }
 }
 
@@ -573,12 +602,12 @@ fn breaks(rule: Rule, a: u64, b: u64) -> bool
         Rule::Unheld => 0 < a && b != 1,
         Rule::Oversize => Sheet::LARGEST_SUM < a,
         Rule::Unmeasured => 0 < a && b == 0,
-        Rule::Crowded => 3 <= u64::count_ones(a) + u64::count_ones(b),
+        Rule::Crowded => 3 <= a,
     }
 }
 
 // The first round that a refusal applies to, from two tables.
-fn first(rule: Rule, a: &[u64; Sheet::TABLE], b: &[u64; Sheet::TABLE]) -> Found
+fn first<'a>(rule: Rule, a: &'a [u64; Sheet::TABLE], b: &'a [u64; Sheet::TABLE]) -> Found
     ensures { λ r. ⌜ r ≡ firstOf (rounds (λ t. breaksOf rule (getD (now (a .entry)) t 0) (getD (now (b .entry)) t 0))) ⌝ }
 {
     let mut r = 1;
@@ -601,19 +630,37 @@ fn flag(n: u64) -> usize
     0
 }
 
-// How many new rounds are in use.
-fn in_use(sheet: &[u32]) -> usize
-    requires { ⌜ Legible (now sheet) ⌝ }
-    ensures { λ r. ⌜ r ≡ length (inUse Side.New (lifts (now (sheet .entry)))) ⌝ }
+// How many rounds are in use, from how many lifts each has.
+pub fn in_use(lifts: &[u64; Sheet::TABLE]) -> usize
+    ensures { λ r. ⌜ r ≡ length (rounds (λ t. ltb 0 (getD (now (lifts .entry)) t 0))) ⌝ }
 {
-    let counts = tally(sheet, Side::New, Field::Unit);
     let mut n = 0;
     let mut r = 1;
     while r <= Sheet::MOST_ROUNDS {
-        n += flag(counts[r]);
+        n += flag(lifts[r]);
         r += 1;
     }
     n
+}
+
+// How many bits are set in two words.
+fn count_bits(low: u64, high: u64) -> u64
+    ensures { λ r. ⌜ r ≡ ones low + ones high ⌝ }
+{
+    (u64::count_ones(low) + u64::count_ones(high)) as u64
+}
+
+// How many donors each new round has, from its two words.
+fn donor_counts(words: [u64; 2 * Sheet::TABLE]) -> [u64; Sheet::TABLE]
+    ensures { λ r. ⌜ r ≡ donorCounts words ⌝ }
+{
+    let mut counts = [0u64; Sheet::TABLE];
+    let mut r = 0;
+    while r < Sheet::TABLE {
+        counts[r] = count_bits(words[2 * r], words[2 * r + 1]);
+        r += 1;
+    }
+    counts
 }
 
 // How many lifts there are, by the end word.
@@ -624,62 +671,73 @@ pub fn size(sheet: &[u32]) -> usize
     Sheet::payload(sheet[sheet.len() - 1]) as usize
 }
 
-// The first old round without exactly one held lift.
-fn find_unheld(sheet: &[u32]) -> Found
+// The answer to a legible sheet, from its tables.
+fn check_rounds(sheet: &[u32], t: Tallies) -> Checked
     requires { ⌜ Legible (now sheet) ⌝ }
-    ensures { λ r. ⌜ r ≡ firstOf (rounds (unheld (lifts (now (sheet .entry))))) ⌝ }
-{
-    let counts = tally(sheet, Side::Old, Field::Unit);
-    let held = tally(sheet, Side::Old, Field::Held);
-    first(Rule::Unheld, &counts, &held)
-}
-
-// The first new round with three donors or more.
-fn find_crowded(sheet: &[u32]) -> Found
-    requires { ⌜ Legible (now sheet) ⌝ }
-    ensures { λ r. ⌜ r ≡ firstOf (rounds (crowded (lifts (now (sheet .entry))))) ⌝ }
-{
-    let low = donors(sheet, 0);
-    let high = donors(sheet, 64);
-    first(Rule::Crowded, &low, &high)
-}
-
-// The answer to a legible sheet.
-fn check_rounds(sheet: &[u32]) -> Checked
-    requires { ⌜ Legible (now sheet) ⌝ }
+    requires { ⌜ Tabled (lifts (now sheet)) t ⌝ }
     ensures { λ r. ⌜ told r ≡ ofRounds (lifts (now (sheet .entry))) ⌝ }
 {
-    if let Found::At(r) = find_unheld(sheet) {
+    if let Found::At(r) = first(Rule::Unheld, &t.old_lifts, &t.held) {
         return Checked::Refused(Refusal::Unheld(r));
     }
-    let sums = both_sums(sheet);
-    let old = sums.old;
-    let new = sums.new;
-    if let Found::At(r) = first(Rule::Oversize, &old, &old) {
+    if let Found::At(r) = first(Rule::Oversize, &t.old_sums, &t.old_sums) {
         return Checked::Refused(Refusal::Oversize(r));
     }
-    if let Found::At(r) = first(Rule::Oversize, &new, &new) {
+    if let Found::At(r) = first(Rule::Oversize, &t.new_sums, &t.new_sums) {
         return Checked::Refused(Refusal::Oversize(r));
     }
-    let counts = tally(sheet, Side::New, Field::Unit);
-    if let Found::At(r) = first(Rule::Unmeasured, &counts, &new) {
+    if let Found::At(r) = first(Rule::Unmeasured, &t.new_lifts, &t.new_sums) {
         return Checked::Refused(Refusal::Unmeasured(r));
     }
-    if let Found::At(r) = find_crowded(sheet) {
+    let donors = donor_counts(t.donors);
+    if let Found::At(r) = first(Rule::Crowded, &donors, &donors) {
         return Checked::Refused(Refusal::Crowded(r));
     }
     Checked::Fits(Sheet {
         lifts: size(sheet),
-        rounds: in_use(sheet),
+        rounds: in_use(&t.new_lifts),
     })
+}
+
+// A refusal of words, which have no tables.
+fn refuse(x: Refusal) -> Examined
+    ensures { λ r. ⌜ r .checked ≡ Checked.Refused x ⌝ }
+{
+    let zeros = [0u64; Sheet::TABLE];
+    let tallies = Tallies {
+        old_lifts: zeros,
+        held: zeros,
+        old_sums: zeros,
+        new_lifts: zeros,
+        new_sums: zeros,
+        donors: [0u64; 2 * Sheet::TABLE],
+    };
+    Examined {
+        checked: Checked::Refused(x),
+        tallies,
+    }
+}
+
+// The answer to any words: refused, with the document's number and place, or fitting, with the tables by round.
+pub fn examine(sheet: &[u32]) -> Examined
+    ensures { λ r. ⌜ Answered (now (sheet .entry)) r ⌝ }
+{
+    match read(sheet) {
+        Judged::Faulty(x) => refuse(x),
+        Judged::Sound => {
+            let tallies = survey(sheet);
+            Examined {
+                checked: check_rounds(sheet, tallies),
+                tallies,
+            }
+        }
+    }
 }
 
 // The answer to any words: refused, with the document's number and place, or fitting.
 pub fn check(sheet: &[u32]) -> Checked
     ensures { λ r. ⌜ told r ≡ verdict (now (sheet .entry)) ⌝ }
 {
-    match read(sheet) {
-        Judged::Faulty(x) => Checked::Refused(x),
-        Judged::Sound => check_rounds(sheet),
-    }
+    let e = examine(sheet);
+    e.checked
 }

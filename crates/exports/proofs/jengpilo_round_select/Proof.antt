@@ -12,7 +12,7 @@ held-of-requires : tie.Need-held-of-requires
 held-of-requires c κs = search needs
 
 select-requires : tie.Need-select-requires
-select-requires c κs = let p = c .before .before .before .before .before .before .pre in (p .0, by-enums (c .before .donors-of .ensures) (c .held-of .ensures) (p .1))
+select-requires c κs = by-enums (c .before .donors-of .ensures) (c .held-of .ensures) (c .before .before .before .before .pre)
 
 enum-known-selected : tie.Need-enum-known-selected
 enum-known-selected c = search needs

@@ -3,33 +3,28 @@ use mathlib.Core.Path.{sym, ap, _∙_}
 use Rattle.sheet.specs.Sheet.{lifts}
 use Rattle.sheet.specs.Refusal.{told as checked}
 use Rattle.sheet.proofs.Verdicts.{decided, fit}
-use Rattle.panel.proofs.Answers.{at-sheet, at-fitting}
 use Rattle.selection.proofs.Fair.{fair}
+use Rattle.panel.proofs.Answers.{at-sheet, at-fitting}
 use borrow.Author.Needs.{needs}
 use Rattle.panel.proofs.choose.Statement.{statement}
 use Rattle.panel.proofs.choose.Tie as tie
 
-check-requires : tie.Need-check-requires
-check-requires c κs = search needs
+examine-requires : tie.Need-examine-requires
+examine-requires c κs = search needs
 
 enum-known-checked : tie.Need-enum-known-checked
 enum-known-checked c = search needs
 
-enum-known-checked-2 : tie.Need-enum-known-checked-2
-enum-known-checked-2 c = search needs
+enum-told : tie.Need-enum-told
+enum-told c = search needs
 
 choose-fitting-requires : tie.Need-choose-fitting-requires
-choose-fitting-requires c κs =
-    let q = c .before .before .checked2 .given in
-    let x =
-    decided (c .before .before .before .before .before .before .before .before .args .sheet .now) .only _ _
-    (sym (c .before .before .before .before .check .ensures) ∙ ap checked (q .1)) in
-    (x .0, (x .1, x .2))
+choose-fitting-requires c κs = let x = decided (c .before .before .before .before .before .before .before .args .sheet .now) .only _ _ (sym (c .before .before .before .examine .ensures .verdict) ∙ ap checked (c .before .enum-told .given .1)) in (x .0, c .before .before .before .examine .ensures .tables (x .0))
 
 returns : tie.Need-returns
 returns c =
     let a = c .before .before .before .before .before .before .before .args in
-    let e = at-sheet (a .sheet .now) (a .words .now) (a .start) (a .out .now) (sym (ap checked (c .before .checked .given .1)) ∙ c .before .before .before .check .ensures) in
+    let e = at-sheet (a .sheet .now) (a .words .now) (a .start) (a .out .now) (sym (ap checked (c .before .checked .given .1)) ∙ c .before .before .before .examine .ensures .verdict) in
     (e .0, (e .1, λ f. fair (lifts (a .sheet .now)) (fit f)))
 
 same-length : tie.Need-same-length
@@ -37,18 +32,19 @@ same-length c = search needs
 
 returns-2 : tie.Need-returns-2
 returns-2 c =
-    let a = c .before .before .before .before .before .before .before .before .before .before .before .args in
+    let a = c .before .before .before .before .before .before .before .before .before .before .args in
+    let x = decided (c .before .before .before .before .before .before .before .before .before .before .args .sheet .now) .only _ _ (sym (c .before .before .before .before .before .before .examine .ensures .verdict) ∙ ap checked (c .before .before .before .before .enum-told .given .1)) in
     let r = c .before .before .choose-fitting .ensures in
-    let e = at-fitting (a .sheet .now) (a .words .now) (a .start) (a .out .now) (sym (ap checked (c .before .before .before .before .before .checked2 .given .1)) ∙ c .before .before .before .before .before .before .before .check .ensures) (r .0) (r .1) in
+    let e = at-fitting (a .sheet .now) (a .words .now) (a .start) (a .out .now) (sym (decided (a .sheet .now) .passes (x .0))) (r .0) (r .1) in
     (e .0, (e .1, λ f. fair (lifts (a .sheet .now)) (fit f)))
 
 pub choose-spec : {M : Type 1} → statement M
 choose-spec =
     tie.close
     (tie.spec
-    check-requires
+    examine-requires
     enum-known-checked
-    enum-known-checked-2
+    enum-told
     choose-fitting-requires
     returns
     same-length

@@ -3,42 +3,51 @@ use mathlib.Core.Path.{_≡_, sym, _∙_}
 use Prim.Native.Nat.{_*_, _≤_}
 use lib.ListN.{length}
 use Rattle.sheet.specs.Sheet.{lifts}
-use Rattle.sheet.proofs.Verdicts.{fit}
-use Rattle.panel.specs.Slices.{told}
+use Rattle.sheet.specs.Rounds.{inUse}
+use Rattle.sheet.specs.declared.Side.the-variants.{New}
+use Rattle.sheet.proofs.Verdicts.{fit, in-use}
+use Rattle.panel.specs.Choosing.{told}
 use Rattle.panel.proofs.Answers.{onward, writable, left, few-rounds, lacks, suffices, through}
 use borrow.Author.Needs.{needs}
 use Rattle.panel.proofs.choose_fitting.Statement.{statement}
 use Rattle.panel.proofs.choose_fitting.Tie as tie
 
+-- how many new rounds there are
+rounds : (c : tie.After-in-use) → c .in-use .result ≡ length (inUse New (lifts (c .before .before .before .before .before .before .args .sheet .now)))
+rounds c = in-use _ (c .before .before .before .before .before .before .pre .1 .new-lifts) (c .in-use .ensures)
+
 -- nothing is lacking
 abbrev Enough : tie.Else1 → Type 0
-Enough c = let a = c .before .before .before .before .before .before .args in (a .start ≤ length (a .words .now)) × (2 * a .rounds ≤ length (a .out .now))
+Enough c = let a = c .before .before .before .before .before .before .before .before .before .args in (a .start ≤ length (a .words .now)) × (2 * c .before .before .before .in-use .result ≤ length (a .out .now))
 
 nothing : (c : tie.Else1) → Enough c
 nothing c =
-    let a = c .before .before .before .before .before .before .args in
-    suffices (a .rounds) (length (a .words .now)) (a .start) (length (a .out .now)) _ (c .before .before .lacking .ensures) (sym (c .before .number .ensures) ∙ c .if1 .left)
+    let a = c .before .before .before .before .before .before .before .before .before .args in
+    suffices (c .before .before .before .in-use .result) (length (a .words .now)) (a .start) (length (a .out .now)) _ (c .before .before .lacking .ensures) (sym (c .before .number .ensures) ∙ c .if1 .left)
+
+in-use-requires : tie.Need-in-use-requires
+in-use-requires c κs = search needs
 
 lacking-requires : tie.Need-lacking-requires
-lacking-requires c κs = let s = c .before .before .before in rw (s .pre .1 .1) (few-rounds (lifts (s .args .sheet .now)))
+lacking-requires c κs = rw (rounds c) (few-rounds (lifts (c .before .before .before .before .before .before .args .sheet .now)))
 
 number-requires : tie.Need-number-requires
 number-requires c κs = search needs
 
 returns : tie.Need-returns
 returns c =
-    let a = c .before .before .before .before .before .before .args in
+    let a = c .before .before .before .before .before .before .before .before .before .args in
     let some : told (c .before .before .lacking .result) .number ≡ 0 → ⊥ = λ z. c .if1 .taken (c .before .number .ensures ∙ z) in
-    left (a .out .now) _ some (lacks (a .rounds) (length (a .words .now)) (a .start) (length (a .out .now)) _ _ (c .before .before .lacking .ensures) some)
+    left (a .out .now) _ some (lacks _ (length (a .words .now)) (a .start) (length (a .out .now)) _ _ (rw (rounds (c .before .before .before)) at (c .before .before .lacking .ensures)) some)
 
 select-all-requires : tie.Need-select-all-requires
-select-all-requires c κs = let s = c .before .before .before .before .before .before in (s .pre .0, s .pre .1 .0)
+select-all-requires c κs = c .before .before .before .before .before .before .before .before .before .pre
 
 write-choices-requires : tie.Need-write-choices-requires
 write-choices-requires c κs =
-    let s = c .before .before .before .before .before .before .before .before in
+    let s = c .before .before .before .before .before .before .before .before .before .before .before in
     let select = c .before .select-all in (
-      writable (lifts (s .args .sheet .now)) (s .args .words .now) (s .args .start) (select .result) (select .ensures) (fit (s .pre .0)) (length (s .args .out .now)) (rw (← s .pre .1 .1) (nothing (c .before .before) .1)),
+      writable (lifts (s .args .sheet .now)) (s .args .words .now) (s .args .start) (select .result) (select .ensures) (fit (s .pre .0)) (length (s .args .out .now)) (rw (← rounds (c .before .before .before .before .before)) (nothing (c .before .before) .1)),
       onward (lifts (s .args .sheet .now)) (s .args .words .now) (s .args .start) (select .result) (select .ensures),
     )
 
@@ -47,15 +56,16 @@ same-length c = search needs
 
 returns-2 : tie.Need-returns-2
 returns-2 c =
-    let s = c .before .before .before .before .before .before .before .before .before .before .before in
+    let s = c .before .before .before .before .before .before .before .before .before .before .before .before .before .before in
     let select = c .before .before .before .before .select-all in
     let e = c .before .before .write-choices .ensures in
-    through (lifts (s .args .sheet .now)) (s .args .words .now) (s .args .start) (s .args .out .now) (s .args .rounds) (nothing (c .before .before .before .before .before)) (select .result) (select .ensures) (fit (s .pre .0)) (e .0) (e .1)
+    through (lifts (s .args .sheet .now)) (s .args .words .now) (s .args .start) (s .args .out .now) (rounds (c .before .before .before .before .before .before .before .before)) (nothing (c .before .before .before .before .before)) (select .result) (select .ensures) (fit (s .pre .0)) (e .0) (e .1)
 
 pub choose-fitting-spec : {M : Type 1} → statement M
 choose-fitting-spec =
     tie.close
     (tie.spec
+    in-use-requires
     lacking-requires
     number-requires
     returns

@@ -1,61 +1,36 @@
--- `panel::held_place` meets its contract: the held lift stands where it stands among the lifts from i on. Assumes nothing.
-use Prim.Native.Nat.{_-_}
-use mathlib.Core.Logic.{⊎-elim}
-use lib.ListN.{length}
+-- `panel::held_place` meets its contract: by whether there is a donor, and whether its seat is in the round. Assumes nothing.
+use mathlib.Core.Path.{sym}
+use borrow.Author.Tests.{lt-ltb, le-ltb}
+use Rattle.rows.proofs.Seating.{place-here, place-before, place-behind}
 use borrow.Author.Needs.{needs}
-use Rattle.panel.proofs.Lending.{Passed, passed-none, passed-here, passed-unheld, passed-other, passed-end}
 use Rattle.panel.proofs.held_place.Statement.{statement}
 use Rattle.panel.proofs.held_place.Tie as tie
 
-abbrev Inv-loop : tie.InvT-loop
-Inv-loop t old-round held i₀ i = Passed t old-round held i
+returns : tie.Need-returns
+returns c = rw (lt-ltb _ _ (c .if1 .taken))
 
-abbrev μ-loop : tie.MeasureT-loop
-μ-loop t old-round held i₀ i = length old-round - i
+mul-seat : tie.Need-mul-seat
+mul-seat c = search needs
 
-loop-holds : tie.Need-loop-holds Inv-loop μ-loop
-loop-holds c = passed-none _ _ _
+element-copy-out-seat : tie.Need-element-copy-out-seat
+element-copy-out-seat c = search needs
 
-mul-if1 : tie.Need-mul-if1 Inv-loop μ-loop
-mul-if1 c = search needs
+returns-2 : tie.Need-returns-2
+returns-2 c = rw (le-ltb _ _ (c .before .before .if1 .left)) (sym (place-before _ _ _ (c .if2 .taken)))
 
-shared-slice-read-if1 : tie.Need-shared-slice-read-if1 Inv-loop μ-loop
-shared-slice-read-if1 c = search needs
+returns-3 : tie.Need-returns-3
+returns-3 c = rw (le-ltb _ _ (c .before .before .before .if1 .left)) (sym (place-behind _ _ _ (c .if3 .taken)))
 
-mul-if2 : tie.Need-mul-if2 Inv-loop μ-loop
-mul-if2 c = search needs
-
-shared-slice-read-if2 : tie.Need-shared-slice-read-if2 Inv-loop μ-loop
-shared-slice-read-if2 c = search needs
-
-returns : tie.Need-returns Inv-loop μ-loop
-returns c = search passed-here
-
-add-i : tie.Need-add-i Inv-loop μ-loop
-add-i c = search needs
-
-loop-less : tie.Need-loop-less Inv-loop μ-loop
-loop-less c = search needs
-
-loop-again : tie.Need-loop-again Inv-loop μ-loop
-loop-again c = ⊎-elim (λ w. search passed-other) (λ w. search passed-unheld) (c .if1 .came)
-
-returns-2 : tie.Need-returns-2 Inv-loop μ-loop
-returns-2 c = search passed-end
+returns-4 : tie.Need-returns-4
+returns-4 c = rw (le-ltb _ _ (c .before .before .before .if1 .left)) (sym (place-here _ _ _ (c .before .if2 .left) (c .if3 .left)))
 
 pub held-place-spec : {M : Type 1} → statement M
 held-place-spec =
     tie.close
     (tie.spec
-    Inv-loop
-    μ-loop
-    loop-holds
-    mul-if1
-    shared-slice-read-if1
-    mul-if2
-    shared-slice-read-if2
     returns
-    add-i
-    loop-less
-    loop-again
-    returns-2)
+    mul-seat
+    element-copy-out-seat
+    returns-2
+    returns-3
+    returns-4)

@@ -1,62 +1,149 @@
--- `panel::select_rounds` meets its contract: what the rounds from r on make of the choices so far is what all rounds make of none. Assumes nothing.
+-- `panel::select_rounds` meets its contract: the choices of the rounds before one, and the panel from it on, are the whole panel. Assumes nothing.
 use native.Mathlib.Omega.{arith}
 use Prim.Native.Nat.{_+_, _-_}
-use mathlib.Core.Path.{_≡_, sym, _∙_}
-use lib.ListN.{length}
-use Rattle.sheet.specs.Sheet.{mostRounds}
-use Rattle.panel.specs.Slices.{lent}
-use Rattle.panel.proofs.Choosing.{Stepping, stepping-none, stepping-turn, stepping-stop, stepping-end}
+use mathlib.Core.Path.{refl, ap₂, _∙_}
+use Rattle.round.specs.Share.{heldOf}
+use Rattle.sheet.specs.Sheet.{mostRounds, lifts}
+use Rattle.sheet.proofs.Verdicts.{fit}
+use Rattle.panel.proofs.Rounds.{Lent, rises, few, part-end, callable}
+use Rattle.panel.proofs.Choosing.{Going, going-none, going-end, on-passed, on-chosen, on-short}
+use borrow.Author.Needs.{needs}
 use Rattle.panel.proofs.select_rounds.Statement.{statement}
 use Rattle.panel.proofs.select_rounds.Tie as tie
 
 abbrev Inv-loop : tie.InvT-loop
-Inv-loop number from old new held donor₀ starts sums low high words start p₀ r₀ donor p r =
-    Stepping (lent number from old new held starts sums low high) words start p r × (length donor ≡ length number)
+Inv-loop sheet words start rows t x numbers₀ outcomes₀ next₀ r₀ numbers outcomes next r = Lent (lifts sheet) rows x (t .«old_sums») × Going (lifts sheet) words start numbers outcomes next r
 
 abbrev μ-loop : tie.MeasureT-loop
-μ-loop number from old new held donor₀ starts sums low high words start p₀ r₀ donor p r = mostRounds + 1 - r
+μ-loop sheet words start rows t x numbers₀ outcomes₀ next₀ r₀ numbers outcomes next r = mostRounds + 1 - r
+
+lay-out-requires : tie.Need-lay-out-requires Inv-loop μ-loop
+lay-out-requires c κs = c .before .before .before .before .pre
 
 loop-holds : tie.Need-loop-holds Inv-loop μ-loop
 loop-holds c =
-    let s = c .before .before .before .before .before .before .before in
-    (stepping-none _ (s .args .words .now) (s .args .start), s .pre .1)
+    let p = c .before .before .before .before .before .before .before .pre in
+    (record { fit = fit (p .0); long = omega (arith, c .before .rows .given, p .1 .1); laid = c .before .before .lay-out .ensures; sums = p .1 .0 .old-sums }, going-none _ _ _)
 
-advance-requires : tie.Need-advance-requires Inv-loop μ-loop
-advance-requires c κs =
-    let s = c .before .before .before .before .before .before .before .before .before .before in
-    let l = c .before .before .loop in
-    (s .pre .0, (l .inv .1, record { from = l .inv .0 .low; upto = c .before .loop-test .taken; few = l .inv .0 .few }))
+mul-a : tie.Need-mul-a Inv-loop μ-loop
+mul-a c = search needs
 
-same-length : tie.Need-same-length Inv-loop μ-loop
-same-length c =
-    let d = c .before .before .before in
-    let s = d .before .before .before .before .before .before .before .before .before .before .before .before in
-    d .donor .given ∙ (d .before .before .before .before .loop .inv .1 ∙ sym (s .pre .1))
+element-copy-out-a : tie.Need-element-copy-out-a Inv-loop μ-loop
+element-copy-out-a c = search needs
 
-returns : tie.Need-returns Inv-loop μ-loop
-returns c =
-    let d = c .before .before .before .before .before in
-    stepping-stop (d .before .before .loop .inv .0) (d .before .loop-test .taken) (c .before .before .before .before .advance .ensures) (c .if1 .taken)
+add-e : tie.Need-add-e Inv-loop μ-loop
+add-e c = search needs
+
+mul-e : tie.Need-mul-e Inv-loop μ-loop
+mul-e c = search needs
+
+element-copy-out-e : tie.Need-element-copy-out-e Inv-loop μ-loop
+element-copy-out-e c = search needs
+
+mul-first : tie.Need-mul-first Inv-loop μ-loop
+mul-first c = search needs
+
+mul-first-2 : tie.Need-mul-first-2 Inv-loop μ-loop
+mul-first-2 c = search needs
+
+element-copy-out-first : tie.Need-element-copy-out-first Inv-loop μ-loop
+element-copy-out-first c = search needs
+
+mul-second : tie.Need-mul-second Inv-loop μ-loop
+mul-second c = search needs
+
+add-second : tie.Need-add-second Inv-loop μ-loop
+add-second c = search needs
+
+mul-second-2 : tie.Need-mul-second-2 Inv-loop μ-loop
+mul-second-2 c = search needs
+
+element-copy-out-second : tie.Need-element-copy-out-second Inv-loop μ-loop
+element-copy-out-second c = search needs
+
+with-sums-requires : tie.Need-with-sums-requires Inv-loop μ-loop
+with-sums-requires c κs = search needs
+
+held-place-requires : tie.Need-held-place-requires Inv-loop μ-loop
+held-place-requires c κs = search needs
+
+held-place-requires-2 : tie.Need-held-place-requires-2 Inv-loop μ-loop
+held-place-requires-2 c κs = search needs
+
+mul-begin : tie.Need-mul-begin Inv-loop μ-loop
+mul-begin c = omega (arith, rises (c .before .before .before .before .before .before .before .before .before .before .before .before .before .before .loop .inv .0) (c .before .before .before .before .before .before .before .before .before .before .before .before .before .before .loop .inv .1 .low) (c .before .before .before .before .before .before .before .before .before .before .before .before .before .loop-test .taken), few (c .before .before .before .before .before .before .before .before .before .before .before .before .before .before .loop .inv .0) (c .before .before .before .before .before .before .before .before .before .before .before .before .before .before .loop .inv .1 .low) (c .before .before .before .before .before .before .before .before .before .before .before .before .before .loop-test .taken))
+
+mul-end : tie.Need-mul-end Inv-loop μ-loop
+mul-end c = omega (arith, rises (c .before .before .before .before .before .before .before .before .before .before .before .before .before .before .loop .inv .0) (c .before .before .before .before .before .before .before .before .before .before .before .before .before .before .loop .inv .1 .low) (c .before .before .before .before .before .before .before .before .before .before .before .before .before .loop-test .taken), few (c .before .before .before .before .before .before .before .before .before .before .before .before .before .before .loop .inv .0) (c .before .before .before .before .before .before .before .before .before .before .before .before .before .before .loop .inv .1 .low) (c .before .before .before .before .before .before .before .before .before .before .before .before .before .loop-test .taken))
+
+mul-choose-lift : tie.Need-mul-choose-lift Inv-loop μ-loop
+mul-choose-lift c = omega (arith, rises (c .before .before .before .before .before .before .before .before .before .before .before .before .before .before .loop .inv .0) (c .before .before .before .before .before .before .before .before .before .before .before .before .before .before .loop .inv .1 .low) (c .before .before .before .before .before .before .before .before .before .before .before .before .before .loop-test .taken), few (c .before .before .before .before .before .before .before .before .before .before .before .before .before .before .loop .inv .0) (c .before .before .before .before .before .before .before .before .before .before .before .before .before .before .loop .inv .1 .low) (c .before .before .before .before .before .before .before .before .before .before .before .before .before .loop-test .taken))
+
+sub-choose-lift : tie.Need-sub-choose-lift Inv-loop μ-loop
+sub-choose-lift c = omega (arith, rises (c .before .before .before .before .before .before .before .before .before .before .before .before .before .before .loop .inv .0) (c .before .before .before .before .before .before .before .before .before .before .before .before .before .before .loop .inv .1 .low) (c .before .before .before .before .before .before .before .before .before .before .before .before .before .loop-test .taken), few (c .before .before .before .before .before .before .before .before .before .before .before .before .before .before .loop .inv .0) (c .before .before .before .before .before .before .before .before .before .before .before .before .before .before .loop .inv .1 .low) (c .before .before .before .before .before .before .before .before .before .before .before .before .before .loop-test .taken))
+
+part-choose-lift-start : tie.Need-part-choose-lift-start Inv-loop μ-loop
+part-choose-lift-start c = omega (arith, rises (c .before .before .before .before .before .before .before .before .before .before .before .before .before .before .before .loop .inv .0) (c .before .before .before .before .before .before .before .before .before .before .before .before .before .before .before .loop .inv .1 .low) (c .before .before .before .before .before .before .before .before .before .before .before .before .before .before .loop-test .taken), few (c .before .before .before .before .before .before .before .before .before .before .before .before .before .before .before .loop .inv .0) (c .before .before .before .before .before .before .before .before .before .before .before .before .before .before .before .loop .inv .1 .low) (c .before .before .before .before .before .before .before .before .before .before .before .before .before .before .loop-test .taken))
+
+part-choose-lift-end : tie.Need-part-choose-lift-end Inv-loop μ-loop
+part-choose-lift-end c = omega (arith, part-end (c .before .before .before .before .before .before .before .before .before .before .before .before .before .before .before .loop .inv .0) (c .before .before .before .before .before .before .before .before .before .before .before .before .before .before .before .loop .inv .1 .low) (c .before .before .before .before .before .before .before .before .before .before .before .before .before .before .loop-test .taken))
+
+held-of-requires : tie.Need-held-of-requires Inv-loop μ-loop
+held-of-requires c κs = search needs
+
+choose-lift-requires : tie.Need-choose-lift-requires Inv-loop μ-loop
+choose-lift-requires c κs = callable (c .before .before .before .before .before .before .before .before .before .before .before .before .before .before .before .before .before .loop .inv .0) (c .before .before .before .before .before .before .before .before .before .before .before .before .before .before .before .before .before .loop .inv .1 .low) (c .before .before .before .before .before .before .before .before .before .before .before .before .before .before .before .before .loop-test .taken) (c .before .before .before .before .before .before .before .before .before .with-sums .ensures) (c .held-of .ensures ∙ ap₂ heldOf (c .before .before .before .before .before .before .held-place .ensures) (c .before .before .before .held-place2 .ensures))
+
+enum-told : tie.Need-enum-told Inv-loop μ-loop
+enum-told c = search needs
 
 add-r : tie.Need-add-r Inv-loop μ-loop
-add-r c = let d = c .before .before .before .before .before in omega (arith, d .before .loop-test .taken)
+add-r c = omega (arith, c .before .before .before .before .before .before .before .before .before .before .before .before .before .before .before .before .before .before .before .loop-test .taken)
 
 loop-less : tie.Need-loop-less Inv-loop μ-loop
-loop-less c = let d = c .before .before .before .before .before in omega (arith, d .before .loop-test .taken)
+loop-less c = omega (arith, c .before .before .before .before .before .before .before .before .before .before .before .before .before .before .before .before .before .before .before .loop-test .taken)
 
 loop-again : tie.Need-loop-again Inv-loop μ-loop
-loop-again c =
-    let d = c .before .before .before .before .before in
-    let l = d .before .before .loop in
-    (stepping-turn (l .inv .0) (d .before .loop-test .taken) (c .before .before .before .before .advance .ensures) (c .if1 .left), c .before .before .before .donor .given ∙ l .inv .1)
+loop-again c = (c .before .before .before .before .before .before .before .before .before .before .before .before .before .before .before .before .before .before .before .before .loop .inv .0, on-passed (c .before .before .before .before .before .before .before .before .before .before .before .before .before .before .before .before .before .before .before .before .loop .inv .0) (c .before .before .before .before .before .before .before .before .before .before .before .before .before .before .before .before .before .before .before .before .loop .inv .1) (c .before .before .before .before .before .before .before .before .before .before .before .before .before .before .before .before .before .before .before .loop-test .taken) (c .before .before .before .before .before .before .before .before .before .before .before .before .with-sums .ensures) (c .before .before .before .held-of .ensures ∙ ap₂ heldOf (c .before .before .before .before .before .before .before .before .before .held-place .ensures) (c .before .before .before .before .before .before .held-place2 .ensures)) (c .before .before .choose-lift .ensures) (c .enum-told .given .1))
+
+enum-known-number : tie.Need-enum-known-number Inv-loop μ-loop
+enum-known-number c = search needs
+
+mul-numbers : tie.Need-mul-numbers Inv-loop μ-loop
+mul-numbers c = omega (arith, c .before .before .before .before .before .before .before .before .before .before .before .before .before .before .before .before .before .before .before .before .loop-test .taken)
+
+array-write-numbers : tie.Need-array-write-numbers Inv-loop μ-loop
+array-write-numbers c = omega (arith, c .before .before .before .before .before .before .before .before .before .before .before .before .before .before .before .before .before .before .before .before .loop-test .taken)
+
+mul-outcomes : tie.Need-mul-outcomes Inv-loop μ-loop
+mul-outcomes c = omega (arith, c .before .before .before .before .before .before .before .before .before .before .before .before .before .before .before .before .before .before .before .before .loop-test .taken)
+
+array-write-outcomes : tie.Need-array-write-outcomes Inv-loop μ-loop
+array-write-outcomes c = omega (arith, c .before .before .before .before .before .before .before .before .before .before .before .before .before .before .before .before .before .before .before .before .loop-test .taken)
+
+add-r-2 : tie.Need-add-r-2 Inv-loop μ-loop
+add-r-2 c = omega (arith, c .before .before .before .before .before .before .before .before .before .before .before .before .before .before .before .before .before .before .before .before .loop-test .taken)
+
+loop-less-2 : tie.Need-loop-less-2 Inv-loop μ-loop
+loop-less-2 c = omega (arith, c .before .before .before .before .before .before .before .before .before .before .before .before .before .before .before .before .before .before .before .before .loop-test .taken)
+
+loop-again-2 : tie.Need-loop-again-2 Inv-loop μ-loop
+loop-again-2 c = (c .before .before .before .before .before .before .before .before .before .before .before .before .before .before .before .before .before .before .before .before .before .loop .inv .0, on-chosen (c .before .before .before .before .before .before .before .before .before .before .before .before .before .before .before .before .before .before .before .before .before .loop .inv .0) (c .before .before .before .before .before .before .before .before .before .before .before .before .before .before .before .before .before .before .before .before .before .loop .inv .1) (c .before .before .before .before .before .before .before .before .before .before .before .before .before .before .before .before .before .before .before .before .loop-test .taken) (c .before .before .before .before .before .before .before .before .before .before .before .before .before .with-sums .ensures) (c .before .before .before .before .held-of .ensures ∙ ap₂ heldOf (c .before .before .before .before .before .before .before .before .before .before .held-place .ensures) (c .before .before .before .before .before .before .before .held-place2 .ensures)) (c .before .before .before .choose-lift .ensures) (c .before .number .given .1))
+
+enum-told-2 : tie.Need-enum-told-2 Inv-loop μ-loop
+enum-told-2 c = search needs
+
+same-length : tie.Need-same-length Inv-loop μ-loop
+same-length c = search needs
+
+returns : tie.Need-returns Inv-loop μ-loop
+returns c = on-short (c .before .before .before .before .before .before .before .before .before .before .before .before .before .before .before .before .before .before .before .before .loop .inv .0) (c .before .before .before .before .before .before .before .before .before .before .before .before .before .before .before .before .before .before .before .before .loop .inv .1) (c .before .before .before .before .before .before .before .before .before .before .before .before .before .before .before .before .before .before .before .loop-test .taken) (c .before .before .before .before .before .before .before .before .before .before .before .before .with-sums .ensures) (c .before .before .before .held-of .ensures ∙ ap₂ heldOf (c .before .before .before .before .before .before .before .before .before .held-place .ensures) (c .before .before .before .before .before .before .held-place2 .ensures)) (c .before .before .choose-lift .ensures) (c .enum-told2 .given .1) _ refl
 
 same-length-2 : tie.Need-same-length-2 Inv-loop μ-loop
-same-length-2 c =
-    let s = c .before .before .before .before .before .before .before .before .before in
-    c .before .loop .inv .1 ∙ sym (s .pre .1)
+same-length-2 c = search needs
 
 returns-2 : tie.Need-returns-2 Inv-loop μ-loop
-returns-2 c = stepping-end (c .before .loop .inv .0) (c .loop-test .left)
+returns-2 c = going-end (c .before .loop .inv .1) (c .loop-test .left)
 
 pub select-rounds-spec : {M : Type 1} → statement M
 select-rounds-spec =
@@ -64,12 +151,45 @@ select-rounds-spec =
     (tie.spec
     Inv-loop
     μ-loop
+    lay-out-requires
     loop-holds
-    advance-requires
-    same-length
-    returns
+    mul-a
+    element-copy-out-a
+    add-e
+    mul-e
+    element-copy-out-e
+    mul-first
+    mul-first-2
+    element-copy-out-first
+    mul-second
+    add-second
+    mul-second-2
+    element-copy-out-second
+    with-sums-requires
+    held-place-requires
+    held-place-requires-2
+    mul-begin
+    mul-end
+    mul-choose-lift
+    sub-choose-lift
+    part-choose-lift-start
+    part-choose-lift-end
+    held-of-requires
+    choose-lift-requires
+    enum-told
     add-r
     loop-less
     loop-again
+    enum-known-number
+    mul-numbers
+    array-write-numbers
+    mul-outcomes
+    array-write-outcomes
+    add-r-2
+    loop-less-2
+    loop-again-2
+    enum-told-2
+    same-length
+    returns
     same-length-2
     returns-2)

@@ -1,58 +1,46 @@
--- `panel::with_sums` meets its contract: by the cases of the donors, which the table has. Assumes nothing.
-use native.Mathlib.Omega.{arith}
+-- `panel::with_sums` meets its contract: by which donors there are. Assumes nothing.
+use borrow.Author.Tests.{lt-ltb, le-ltb}
 use borrow.Author.Needs.{needs}
 use Rattle.panel.proofs.with_sums.Statement.{statement}
 use Rattle.panel.proofs.with_sums.Tie as tie
 
-enum-told : tie.Need-enum-told
-enum-told c = search needs
-
-enum-known-s : tie.Need-enum-known-s
-enum-known-s c = search needs
-
-mul-t8 : tie.Need-mul-t8
-mul-t8 c = omega (arith, rw (c .before .s .given .1) at (c .before .before .before .pre))
-
-element-copy-out-t11 : tie.Need-element-copy-out-t11
-element-copy-out-t11 c = omega (arith, rw (c .before .s .given .1) at (c .before .before .before .pre))
-
-enum-known-s-2 : tie.Need-enum-known-s-2
-enum-known-s-2 c = search needs
-
-mul-t13 : tie.Need-mul-t13
-mul-t13 c = omega (arith, (rw (c .before .s2 .given .1) at (c .before .before .before .pre)) .0)
-
-element-copy-out-t16 : tie.Need-element-copy-out-t16
-element-copy-out-t16 c = omega (arith, (rw (c .before .s2 .given .1) at (c .before .before .before .pre)) .0)
-
-mul-t18 : tie.Need-mul-t18
-mul-t18 c = omega (arith, (rw (c .before .before .s2 .given .1) at (c .before .before .before .before .pre)) .1)
-
-element-copy-out-t21 : tie.Need-element-copy-out-t21
-element-copy-out-t21 c = omega (arith, (rw (c .before .before .s2 .given .1) at (c .before .before .before .before .pre)) .1)
-
 returns : tie.Need-returns
-returns c = search needs
+returns c = rw (lt-ltb _ _ (c .if1 .taken))
+
+mul-t7 : tie.Need-mul-t7
+mul-t7 c = search needs
+
+element-copy-out-t10 : tie.Need-element-copy-out-t10
+element-copy-out-t10 c = search needs
 
 returns-2 : tie.Need-returns-2
-returns-2 c = rw (c .before .before .s .given .1)
+returns-2 c = rw (le-ltb _ _ (c .before .before .if1 .left), lt-ltb _ _ (c .before .if2 .taken))
+
+mul-t12 : tie.Need-mul-t12
+mul-t12 c = search needs
+
+element-copy-out-t4 : tie.Need-element-copy-out-t4
+element-copy-out-t4 c = search needs
+
+mul-t16 : tie.Need-mul-t16
+mul-t16 c = search needs
+
+element-copy-out-t19 : tie.Need-element-copy-out-t19
+element-copy-out-t19 c = search needs
 
 returns-3 : tie.Need-returns-3
-returns-3 c = rw (c .before .before .before .s2 .given .1)
+returns-3 c = rw (le-ltb _ _ (c .before .before .before .if1 .left), le-ltb _ _ (c .before .before .if2 .left))
 
 pub with-sums-spec : {M : Type 1} → statement M
 with-sums-spec =
     tie.close
     (tie.spec
-    enum-told
-    enum-known-s
-    mul-t8
-    element-copy-out-t11
-    enum-known-s-2
-    mul-t13
-    element-copy-out-t16
-    mul-t18
-    element-copy-out-t21
     returns
+    mul-t7
+    element-copy-out-t10
     returns-2
+    mul-t12
+    element-copy-out-t4
+    mul-t16
+    element-copy-out-t19
     returns-3)

@@ -58,7 +58,7 @@ write-pair-requires c κs =
     let loop = c .before .before .before .before .before .loop in
     let n : loop .start + 2 - loop .start ≡ 2 = omega arith in (
       rw n (length-take-le 2 (drop (loop .start) (loop .out)) (rw (length-drop (loop .start) (loop .out)) (omega (arith, space (c .before))))),
-      (c .before .before .before .before .loop-test .taken, (p .numbers .each (loop .round), p .outcomes (loop .round))),
+      (c .before .before .before .before .loop-test .taken, (p .numbers (loop .round), p .outcomes (loop .round))),
     )
 
 add-round : tie.Need-add-round Inv-loop μ-loop

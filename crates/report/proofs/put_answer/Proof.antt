@@ -1,5 +1,5 @@
 -- `report::put_answer` meets its contract: by the answer's number, which is 0 where there are choices. Assumes nothing.
-use Rattle.panel.specs.Slices.{told}
+use Rattle.panel.specs.Choosing.{told}
 use Rattle.report.proofs.Sizes.{refused-le}
 use Rattle.report.proofs.Words.{lent}
 use Rattle.report.proofs.Texts.{at-start}

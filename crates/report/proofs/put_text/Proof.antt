@@ -1,6 +1,6 @@
 -- `report::put_text` meets its contract: the files are decoded, and what `choose` ensures tells the text. Assumes nothing.
 use mathlib.Core.Path.{refl, sym, _∙_}
-use Rattle.panel.specs.Slices.{told}
+use Rattle.panel.specs.Choosing.{told}
 use Rattle.report.specs.Report.{sheetWords, randomWords}
 use Rattle.report.proofs.Words.{random-le, lent}
 use Rattle.report.proofs.Reports.{Told, text-told}

@@ -1,16 +1,16 @@
 -- `round::gathered` meets its contract: the lifts passed stand at the start of the block. Assumes nothing.
 use borrow.Author.Needs.{needs}
 use Prim.Native.Nat.{_-_}
-use Rattle.round.specs.Slices.{lifts}
+use Rattle.round.specs.Rows.{lifts}
 use Rattle.round.proofs.Loops.{Gathered, gather-none, gather-turn, gather-end}
 use Rattle.round.proofs.gathered.Statement.{statement}
 use Rattle.round.proofs.gathered.Tie as tie
 
 abbrev Inv-loop : tie.InvT-loop
-Inv-loop old donor new a e block₀ i₀ block i = Gathered (lifts old donor new) block a e i
+Inv-loop rows a e block₀ i₀ block i = Gathered (lifts rows) block a e i
 
 abbrev μ-loop : tie.MeasureT-loop
-μ-loop old donor new a e block₀ i₀ block i = e - i
+μ-loop rows a e block₀ i₀ block i = e - i
 
 loop-holds : tie.Need-loop-holds Inv-loop μ-loop
 loop-holds c = search gather-none

@@ -42,7 +42,7 @@ use denote.Triple.Table.{entered, cited}
 use denote.Triple.Walked.{says, needs}
 use Rattle.laws.specs.Interval.{pick as pickOf}
 use Rattle.round.specs.Round.{liftAt, growth}
-use Rattle.round.specs.Slices.{lift, scaled, Room as WeightsRoom, LiftRoom}
+use Rattle.round.specs.Rows.{lift, scaled, Room as WeightsRoom, LiftRoom}
 use Rattle.round.specs.declared.Lift.{Lift}
 use Rattle.round.specs.declared.Scale.{Scale}
 use Rattle.walking.proofs.Walking.{val, sets, calls-said, opens-elem, shuts-elem, on-bool, less, not-less, goes-in, passes-by, freed, ends-plain, Outside, Ending, Walk, meets-plain}

@@ -2,19 +2,21 @@
 use borrow.Author.Needs.{needs}
 use Prim.Native.Nat.{_-_}
 use mathlib.Core.List.{map}
-use lib.ListN.{length}
 use Rattle.laws.specs.Interval.{pick}
 use Rattle.round.specs.Round.{growth}
-use Rattle.round.specs.Slices.{lifts, scaled}
+use Rattle.round.specs.Rows.{lifts, scaled}
 use Rattle.round.proofs.Loops.{Sought, grows, pick-none, pick-end, block-less, block-from, block-inside, block-short, block-turn, block-fits, block-here, block-room}
 use Rattle.round.proofs.pick_lift.Statement.{statement}
 use Rattle.round.proofs.pick_lift.Tie as tie
 
 abbrev Inv-loop : tie.InvT-loop
-Inv-loop s old donor new q left₀ i₀ left i = Sought (grows s) (lifts old donor new) (pick (map growth (map (scaled s) (lifts old donor new))) q) left i
+Inv-loop s rows q n left₀ i₀ left i = Sought (grows s) (lifts rows) (pick (map growth (map (scaled s) (lifts rows))) q) left i
 
 abbrev μ-loop : tie.MeasureT-loop
-μ-loop s old donor new q left₀ i₀ left i = length old - i
+μ-loop s rows q n left₀ i₀ left i = n - i
+
+count-requires : tie.Need-count-requires Inv-loop μ-loop
+count-requires c κs = search needs
 
 loop-holds : tie.Need-loop-holds Inv-loop μ-loop
 loop-holds c = search pick-none
@@ -55,6 +57,7 @@ pick-lift-spec =
     (tie.spec
     Inv-loop
     μ-loop
+    count-requires
     loop-holds
     block-end-requires
     reach-between-requires

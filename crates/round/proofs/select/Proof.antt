@@ -19,16 +19,14 @@ scaling-requires c κs = search needs
 
 update-requires : tie.Need-update-requires
 update-requires c κs =
-    let p = c .before .before .before .before .before .before .before .before .pre in
-    updatable (p .0) (c .scaling .ensures) (p .1) (single-inside (p .0) (c .before .before .held .given .1) (p .1))
+    let p = c .before .before .before .before .before .before .pre in updatable (c .scaling .ensures) p (single-inside (c .before .before .held .given .1) p)
 
 enum-known-held-2 : tie.Need-enum-known-held-2
 enum-known-held-2 c = search needs
 
 select-of-two-requires : tie.Need-select-of-two-requires
 select-of-two-requires c κs =
-    let p = c .before .before .before .before .before .before .before .pre in
-    (p .0, rw (c .before .held2 .given .1) at (p .1))
+    rw (c .before .held2 .given .1) at (c .before .before .before .before .before .pre)
 
 returns : tie.Need-returns
 returns c = search neither

@@ -1,6 +1,6 @@
 -- `round::select_of_two` meets its contract: the draw between the two held lifts, then the update of one of them. Assumes nothing.
 use borrow.Author.Needs.{needs}
-use Rattle.round.proofs.Scales.{first-inside, second-inside, both-drawable, updatable}
+use Rattle.round.proofs.Scales.{both-inside, both-drawable, updatable}
 use Rattle.round.proofs.Answers.{two-first, two-second, two-short}
 use Rattle.round.proofs.select_of_two.Statement.{statement}
 use Rattle.round.proofs.select_of_two.Tie as tie
@@ -16,13 +16,11 @@ enum-known-v c = search needs
 
 update-requires : tie.Need-update-requires
 update-requires c κs =
-    let p = c .before .before .before .before .before .before .before .before .before .before .before .pre in
-    updatable (p .0) (c .before .before .before .before .before .before .scaling .ensures) (p .1) (first-inside (p .0) (p .1))
+    let p = c .before .before .before .before .before .before .before .before .before .pre in updatable (c .before .before .before .before .before .before .scaling .ensures) p (both-inside p .0)
 
 update-requires-2 : tie.Need-update-requires-2
 update-requires-2 c κs =
-    let p = c .before .before .before .before .before .before .before .before .before .before .before .pre in
-    updatable (p .0) (c .before .before .before .before .before .before .scaling .ensures) (p .1) (second-inside (p .0) (p .1))
+    let p = c .before .before .before .before .before .before .before .before .before .pre in updatable (c .before .before .before .before .before .before .scaling .ensures) p (both-inside p .1)
 
 enum-told : tie.Need-enum-told
 enum-told c = search needs

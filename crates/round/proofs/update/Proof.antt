@@ -1,18 +1,14 @@
 -- `round::update` meets its contract: one law for each way out; where the lift may be dropped, the growths have a sum above 0. Assumes nothing.
 use borrow.Author.Needs.{needs}
-use native.Mathlib.Omega.{arith}
-use Rattle.round.specs.Slices.{lifts}
-use Rattle.round.proofs.Loops.{lifts-length, Weighed, old-fits, new-fits, moves-G}
+use Rattle.round.specs.Rows.{lifts}
+use Rattle.round.proofs.Loops.{Weighed, old-fits, new-fits, moves-G}
 use Rattle.round.proofs.Answers.{stays, kept, moved, update-short}
 use Rattle.round.proofs.update.Statement.{statement}
 use Rattle.round.proofs.update.Tie as tie
 
 -- the lift at i, once its multiplier is known
-weighed : (c : tie.After-multiplier)
-    → let a = c .before .before .before .before .before .before .args in Weighed (a .s) (lifts (a .old .now) (a .donor .now) (a .new .now)) (a .i) (c .multiplier .result) (c .before .lift-at .result)
-weighed c =
-    let p = c .before .before .before .before .before .before .pre in
-    record { inside = omega (arith, lifts-length (p .0), p .1 .1 .1); reads = c .before .lift-at .ensures; multiplies = c .multiplier .ensures }
+weighed : (c : tie.After-multiplier) → let a = c .before .before .before .before .args in Weighed (a .s) (lifts (a .rows .now)) (a .i) (c .multiplier .result) (c .before .lift-at .result)
+weighed c = record { inside = c .before .before .before .before .pre .1 .1; reads = c .before .lift-at .ensures; multiplies = c .multiplier .ensures }
 
 lift-at-requires : tie.Need-lift-at-requires
 lift-at-requires c κs = search needs
@@ -21,10 +17,10 @@ multiplier-requires : tie.Need-multiplier-requires
 multiplier-requires c κs = search needs
 
 mul-before : tie.Need-mul-before
-mul-before c = old-fits (weighed (c .before)) (c .before .before .before .before .before .before .before .pre .1 .0)
+mul-before c = old-fits (weighed (c .before)) (c .before .before .before .before .before .pre .0)
 
 mul-after : tie.Need-mul-after
-mul-after c = new-fits (weighed (c .before .before .before)) (c .before .before .before .before .before .before .before .before .before .pre .1 .0)
+mul-after c = new-fits (weighed (c .before .before .before)) (c .before .before .before .before .before .before .before .pre .0)
 
 outcome-requires : tie.Need-outcome-requires
 outcome-requires c κs = search needs
@@ -43,8 +39,8 @@ outcome-requires-2 c κs = search needs
 
 draw-lift-requires : tie.Need-draw-lift-requires
 draw-lift-requires c κs =
-    let b = c .before .before .before .before .before .before .before .before .before .before .before .before .before .before .before .pre .1 .1 .0 in
-    (search needs, (search needs, moves-G (weighed (c .before .before .before .before .before .before .before .before .before)) b (c .before .before .before .before .before .if1 .left)))
+    let b = c .before .before .before .before .before .before .before .before .before .before .before .before .before .pre .1 .0 in
+    (search needs, moves-G (weighed (c .before .before .before .before .before .before .before .before .before)) b (c .before .before .before .before .before .if1 .left))
 
 enum-told : tie.Need-enum-told
 enum-told c = search needs

@@ -1,29 +1,40 @@
--- `sheet::bit` meets its contract: without measure or outside the 64 no bit is set, else the one that the shift makes. Assumes nothing.
+-- `sheet::bit` meets its contract: without measure no bit is set, else the one that the shift makes. Assumes nothing.
 use native.Mathlib.Omega.{arith}
-use borrow.Author.Needs.{needs}
-use mathlib.Core.Path.{sym, _∙_}
-use native.Mathlib.Nat.{one-mul}
+use mathlib.Core.Path.{_≡_, refl, sym, _∙_}
+use mathlib.Core.Bool.{Bool, true, false}
+use native.Mathlib.Nat.{one-mul, zero-mul}
+use Prim.Native.Nat.{ℕ, _*_, _%_, _^_}
+use lib.Dec.{ltb}
 use lib.Pow.{shl-exact}
+use borrow.Author.Tests.{ltb-true, ltb-false}
+use Rattle.laws.specs.Sum.{indicator}
+use Rattle.sheet.specs.Tables.{bitOf}
 use Rattle.sheet.proofs.Bits.{bit-none, bit-one}
+use borrow.Author.Needs.{needs}
 use Rattle.sheet.proofs.bit.Statement.{statement}
 use Rattle.sheet.proofs.bit.Tie as tie
 
-returns : tie.Need-returns
-returns c = sym (bit-none 64 _ (c .before .args .measure) _ (λ t l e g. omega arith))
+-- a bit or none, shifted to its place
+shifted : (round measure : ℕ) → indicator (ltb 0 measure) * 2 ^ (round % 64) % 2 ^ 64 ≡ bitOf round measure
+shifted round measure = go (ltb 0 measure) refl
+  where
+    go : (t : Bool) → ltb 0 measure ≡ t → indicator t * 2 ^ (round % 64) % 2 ^ 64 ≡ bitOf round measure
+    go true e = shl-exact 1 (round % 64) 64 (omega arith) (omega arith) ∙ one-mul (2 ^ (round % 64)) ∙ sym (bit-one 64 (round % 64) measure (omega arith) (ltb-true 0 measure e))
+    go false e = rw (zero-mul (2 ^ (round % 64))) (sym (bit-none 64 (round % 64) measure (omega (arith, ltb-false 0 measure e))))
 
-returns-2 : tie.Need-returns-2
-returns-2 c = sym (bit-none 64 _ (c .before .before .args .measure) _ (λ t l e g. omega arith))
+flag-requires : tie.Need-flag-requires
+flag-requires c κs = search needs
 
 shl-result : tie.Need-shl-result
 shl-result c = search needs
 
-returns-3 : tie.Need-returns-3
-returns-3 c =
-    shl-exact 1 _ 64 (omega arith) (omega arith) ∙ one-mul _
-    ∙ sym (bit-one 64 _ (c .before .before .before .args .measure) _ _ (omega arith) (omega arith) (omega arith))
-
-returns-4 : tie.Need-returns-4
-returns-4 c = sym (bit-none 64 _ (c .before .before .before .args .measure) _ (λ t l e g. omega arith))
+returns : tie.Need-returns
+returns c = rw (c .flag .ensures) (shifted (c .before .args .round) (c .before .args .measure))
 
 pub bit-spec : {M : Type 1} → statement M
-bit-spec = tie.close (tie.spec returns returns-2 shl-result returns-3 returns-4)
+bit-spec =
+    tie.close
+    (tie.spec
+    flag-requires
+    shl-result
+    returns)

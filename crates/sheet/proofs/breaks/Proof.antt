@@ -1,8 +1,6 @@
--- `sheet::breaks` meets its contract: by the cases of the rule; two counts of 64 bits have room. Assumes nothing.
-use native.Mathlib.Omega.{arith}
+-- `sheet::breaks` meets its contract: by the cases of the rule. Assumes nothing.
 use borrow.Author.Needs.{needs}
 use borrow.Author.Tests.{lt-ltb, le-ltb}
-use lib.Count.{ones-le}
 use Rattle.sheet.proofs.breaks.Statement.{statement}
 use Rattle.sheet.proofs.breaks.Tie as tie
 
@@ -17,9 +15,6 @@ enum-told-3 c = search needs
 
 enum-told-4 : tie.Need-enum-told-4
 enum-told-4 c = search needs
-
-add-result : tie.Need-add-result
-add-result c = omega (arith, ones-le 64 (c .before .before .args .a) (omega arith), ones-le 64 (c .before .before .args .b) (omega arith))
 
 returns : tie.Need-returns
 returns c = rw (c .before .enum-told .given .1, lt-ltb _ _ (c .if1 .taken))
@@ -47,7 +42,6 @@ breaks-spec =
     enum-told-2
     enum-told-3
     enum-told-4
-    add-result
     returns
     returns-2
     returns-3

@@ -1,0 +1,188 @@
+-- A new round of lifts that fit, from the layout of their rows: its donors, lifts and held lifts are those of the definitions.
+use Prim.Native.Nat.{ℕ, zero, suc, _+_, _*_, _-_, _/_, _≤_, _<_}
+use mathlib.Core.Path.{_≡_, refl, sym, ap, ap₂, _∙_}
+use mathlib.Core.Bool.{Bool, true, false, cond}
+use mathlib.Core.List.{List, [], _∷_, map}
+use native.Mathlib.Nat.{sub-zero, zero-sub, suc-sub-suc, mul-div-cancel-left}
+use native.Mathlib.Numerals.{add-one}
+use native.Mathlib.Omega.{arith}
+use lib.Dec.{eqb, ltb}
+use lib.ListN.{length, getD, take, drop, length-drop}
+use lib.Seq.{slice, take-nil, drop-nil, length-take-le}
+use borrow.Author.Tests.{eq-eqb, ne-eqb, eqb-true, ltb-true, ltb-false, lt-ltb, le-ltb}
+use Rattle.laws.specs.Sum.{indicator}
+use Rattle.laws.specs.Initial.{Initial, elsewhere}
+use Rattle.laws.specs.Pieces.{pieces}
+use Rattle.laws.proofs.Pieces.{pieces-part}
+use Rattle.draw.specs.Draw.{largest}
+use Rattle.draw.specs.Run.{run}
+use Rattle.round.specs.Choice.{answer, selected}
+use Rattle.round.specs.Share.{heldOf}
+use Rattle.round.specs.declared.Donors.{Donors}
+use Rattle.round.specs.declared.Held.{Held}
+use Rattle.round.specs.declared.Selected.{Selected}
+use Rattle.round.specs.declared.Lift.{Lift as RoundLift}
+use Rattle.round.specs.Rows.{lift, liftOf, lifts as liftsOfRows, Callable, rowLength}
+use Rattle.sheet.specs.Sheet.{mostLifts, mostRounds, Lift}
+use Rattle.sheet.specs.Rounds.{placeAt, named, sumOf, heldIn as heldCount, sends, donors, donorNumber, ofRound, heldAt}
+use Rattle.sheet.specs.Tables.{tallyOf}
+use Rattle.rows.specs.SetBits.{noBit}
+use Rattle.rows.specs.Rows.{below, rowOf, Laid}
+use Rattle.sheet.specs.Law.{Fit}
+use Rattle.sheet.specs.declared.Side.the-variants.{Old, New}
+use Rattle.sheet.specs.declared.Field.the-variants.{Measure}
+use Rattle.rows.specs.declared.Layout.{Layout}
+use Rattle.sheet.proofs.Tables.{getD-tabulate}
+use Rattle.rows.proofs.Placing.{below-le, below-suc, named-length}
+use Rattle.selection.specs.Choice.{withSums, donorsOf, liftsOf, heldAmong, heldIn, planOf, nobody, liftAt}
+use Rattle.selection.proofs.Held.{held-exactly}
+use Rattle.selection.proofs.RoundsFit.{Senders, none, one, two, senders, round-fits, round-bounded, round-stands}
+use Rattle.selection.proofs.Selections.{sends-named}
+use Rattle.panel.specs.Choosing.{withTable, seatIn, chosenOf, stepOf}
+use Rattle.panel.specs.declared.Step.the-variants.{Passed}
+
+-- ---- lists
+
+-- a part of a list as the code lends it
+slice-part : {A : Type 0} (a e : ℕ) (l : List A) → take (e - a) (drop a l) ≡ slice a e l
+slice-part zero e l = ap (λ n. take n l) (sub-zero e)
+slice-part (suc a) zero l = rw (zero-sub (suc a), drop-nil) refl
+slice-part (suc a) (suc e) [] = take-nil (suc e - suc a)
+slice-part (suc a) (suc e) (x ∷ l) = rw (suc-sub-suc e a) (slice-part a e l)
+
+-- the rows of a round's lifts are its lifts
+rows-lifts : (whole : List Lift) (r : ℕ) (ls : List Lift)
+    → map liftOf (map (rowOf whole) (ofRound r ls))
+    ≡ map (λ l. lift (l .old .measure) (donorNumber (donors r whole) (l .old .round)) (placeAt New l .measure)) (ofRound r ls)
+unfolding ofRound
+rows-lifts whole r [] = refl
+rows-lifts whole r (l ∷ ls) = go (eqb (l .new .round) r) refl (rows-lifts whole r ls)
+  where
+    of : Lift → RoundLift
+    of l = lift (l .old .measure) (donorNumber (donors r whole) (l .old .round)) (placeAt New l .measure)
+
+    go : (t : Bool) → eqb (l .new .round) r ≡ t → map liftOf (map (rowOf whole) (ofRound r ls)) ≡ map of (ofRound r ls)
+        → map liftOf (map (rowOf whole) (cond t (l ∷ ofRound r ls) (ofRound r ls))) ≡ map of (cond t (l ∷ ofRound r ls) (ofRound r ls))
+    go true q ih = rw (eqb-true (l .new .round) r q, ih)
+    go false q ih = ih
+
+-- ---- one round of a layout
+
+-- what is lent: the layout of lifts that fit, and their old sums
+pub record Lent (ls : List Lift) (rows : List ℕ) (x : Layout) (table : List ℕ) : Type 0 where
+  pub fit : Fit ls
+  pub long : length rows ≡ rowLength * length ls
+  pub laid : Laid ls rows x
+  pub sums : table ≡ tallyOf Old (Measure Old) ls
+
+-- where round r begins
+abbrev pub begins : Layout → ℕ → ℕ
+begins x r = getD (x .starts) r 0
+
+-- its rows, as a part of an array
+abbrev pub partOf : Layout → ℕ → List ℕ → List ℕ
+partOf x r rows = take (rowLength * begins x (r + 1) - rowLength * begins x r) (drop (rowLength * begins x r) rows)
+
+-- its donors and held lifts
+abbrev pub donorsIn : Layout → List ℕ → ℕ → Donors
+donorsIn x sums r = withTable (getD (x .donors) (2 * r) 0) (getD (x .donors) (2 * r + 1) 0) sums
+
+abbrev pub marksIn : Layout → ℕ → Held
+marksIn x r =
+    heldOf (seatIn (getD (x .donors) (2 * r) 0) (x .seats) (begins x r) (begins x (r + 1))) (seatIn (getD (x .donors) (2 * r + 1) 0) (x .seats) (begins x r) (begins x (r + 1)))
+
+numbers-are : (ls us : List Lift) (i : ℕ) → getD (getD (map (rowOf ls) us) i []) 0 0 ≡ getD us i nobody .number
+numbers-are ls [] i = refl
+numbers-are ls (u ∷ us) zero = refl
+numbers-are ls (u ∷ us) (suc i) = numbers-are ls us i
+
+module _ {ls : List Lift} {rows : List ℕ} {x : Layout} {table : List ℕ} (d : Lent ls rows x table) {r : ℕ} (low : 1 ≤ r) (high : r ≤ mostRounds) where
+  begin : begins x r ≡ below r ls
+  begin = ap (λ t. getD t r 0) (d .laid .starts) ∙ getD-tabulate (mostRounds + 2) (λ t. below t ls) r (omega arith)
+
+  end : begins x (r + 1) ≡ below (suc r) ls
+  end = ap (λ t. getD t (r + 1) 0) (d .laid .starts) ∙ getD-tabulate (mostRounds + 2) (λ t. below t ls) (r + 1) (omega arith) ∙ ap (λ t. below t ls) (add-one r)
+
+  -- it ends behind its lifts, inside the rows
+  pub ends : begins x (r + 1) ≡ begins x r + named New r ls
+  ends = end ∙ sym (below-suc r ls) ∙ ap₂ _+_ (sym begin) (sym (named-length r ls))
+
+  pub inside : begins x (r + 1) ≤ length ls
+  inside = omega (arith, end, below-le (suc r) ls)
+
+  -- places that a number of 64 bits can tell
+  pub rises : begins x r ≤ begins x (r + 1)
+  rises = omega (arith, ends)
+
+  pub few : begins x (r + 1) ≤ mostLifts
+  few = omega (arith, inside, d .fit .listable .few)
+
+  pub part-end : rowLength * begins x (r + 1) ≤ length rows
+  part-end = omega (arith, inside, d .long)
+
+  many : length rows / rowLength ≡ length ls
+  many = rw (d .long) (mul-div-cancel-left (length ls) (omega arith))
+
+  -- its rows are its lifts'
+  part-pieces : pieces rowLength (partOf x r rows) ≡ map (rowOf ls) (ofRound r ls)
+  part-pieces =
+      pieces-part rowLength (begins x r) (begins x (r + 1)) rows (omega arith) (omega (arith, ends)) (omega (arith, many, inside))
+      ∙ slice-part (begins x r) (begins x (r + 1)) (pieces rowLength rows) ∙ rw (begin, end) (d .laid .rows .parts r high)
+
+  pub part-length : length (partOf x r rows) ≡ rowLength * named New r ls
+  part-length = length-take-le (rowLength * begins x (r + 1) - rowLength * begins x r) (drop (rowLength * begins x r) rows) (rw (length-drop (rowLength * begins x r) rows) (omega (arith, d .long, ends, inside))) ∙ omega (arith, ends)
+
+  -- the numbers of its lifts
+  pub number-is : (i : ℕ) → getD (getD (pieces rowLength (partOf x r rows)) i []) 0 0 ≡ liftAt r ls i .number
+  unfolding liftAt
+  number-is i = rw part-pieces (numbers-are ls (ofRound r ls) i)
+
+  pub lifts-are : liftsOfRows (partOf x r rows) ≡ liftsOf r ls
+  unfolding liftsOfRows liftsOf
+  lifts-are = rw part-pieces (rows-lifts ls r ls)
+
+  sum-is : (t : ℕ) → t ≤ mostRounds → getD table t 0 ≡ sumOf Old t ls
+  sum-is t h = ap (λ s. getD s t 0) (d .sums) ∙ getD-tabulate (mostRounds + 1) _ t (omega arith)
+
+  pub donors-are : donorsIn x table r ≡ donorsOf r ls
+  unfolding donorsOf
+  donors-are = let p = d .laid .donors r high in rw (p .0, p .1) (go (donors r ls) (senders (d .fit) low high))
+    where
+      go : (ds : List ℕ) → Senders r ls ds → withTable (getD ds 0 noBit) (getD ds 1 noBit) table ≡ withSums ds ls
+      go [] none = refl
+      go (t ∷ []) (one s l h) = rw (le-ltb mostRounds t h, sum-is t h)
+      go (t ∷ u ∷ []) (two s v l m h) = rw (le-ltb mostRounds t (omega arith), le-ltb mostRounds u h, sum-is t (omega arith), sum-is u h)
+
+  -- a donor has one held lift, which stands at its seat
+  seat-is : (t : ℕ) → sends t r ls ≡ true → 1 ≤ t → t ≤ mostRounds → seatIn t (x .seats) (below r ls) (below (suc r) ls) ≡ heldAt t (ofRound r ls)
+  seat-is t s l h =
+      let one : heldCount t ls ≡ 1 = held-exactly ls t (d .fit .rounds .held t l h) ∙ ap indicator (lt-ltb 0 (named Old t ls) (sends-named t r ls s)) in
+      rw (le-ltb mostRounds t h) (d .laid .seats .seat t h one r high)
+
+  pub marks-are : marksIn x r ≡ heldIn r ls
+  unfolding heldIn
+  marks-are = let p = d .laid .donors r high in rw (p .0, p .1, begin, end) (go (donors r ls) (senders (d .fit) low high))
+    where
+      at : ℕ → Initial
+      at t = seatIn t (x .seats) (below r ls) (below (suc r) ls)
+
+      go : (ds : List ℕ) → Senders r ls ds → heldOf (at (getD ds 0 noBit)) (at (getD ds 1 noBit)) ≡ heldAmong ds (ofRound r ls)
+      go [] none = refl
+      go (t ∷ []) (one s l h) = ap (λ y. heldOf y elsewhere) (seat-is t s l h)
+      go (t ∷ u ∷ []) (two s v l m h) = ap₂ heldOf (seat-is t s l (omega arith)) (seat-is u v (omega arith) h)
+
+  pub callable : {ds : Donors} {h : Held} → ds ≡ donorsIn x table r → h ≡ marksIn x r → 0 < length (partOf x r rows) → Callable ds (liftsOfRows (partOf x r rows)) h
+  callable e f h =
+      rw (e, f, donors-are, lifts-are, marks-are)
+      (record { fitting = round-fits (d .fit) low high (omega (arith, part-length)); bounded = round-bounded (d .fit) low high; stands = round-stands (d .fit) low high })
+
+  -- its choice: none without lifts, else that of its plan
+  pub step-passed : (s : Selected) → ltb 0 (named New r ls) ≡ false → stepOf (partOf x r rows) s ≡ Passed
+  step-passed s e = rw (eq-eqb (length (partOf x r rows)) 0 (omega (arith, part-length, ltb-false 0 (named New r ls) e)))
+
+  pub step-used : (ws : List ℕ) (next : ℕ) → ltb 0 (named New r ls) ≡ true
+      → stepOf (partOf x r rows) (selected (donorsIn x table r) (liftsOfRows (partOf x r rows)) (marksIn x r) ws next)
+      ≡ chosenOf (partOf x r rows) (answer (heldIn r ls) (run largest ws next (planOf r ls)))
+  unfolding planOf
+  step-used ws next e =
+      rw (donors-are, lifts-are, marks-are, ne-eqb (length (partOf x r rows)) 0 (λ z. omega (arith, part-length, ltb-true 0 (named New r ls) e)))

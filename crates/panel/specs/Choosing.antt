@@ -1,0 +1,116 @@
+-- The rounds of a sheet laid out as rows, and the choices as the code gathers them.
+use Prim.Native.Nat.{ℕ, zero, suc, _+_, _-_, _^_, _≤_, _<_}
+use mathlib.Core.Path.{_≡_}
+use mathlib.Core.Bool.{cond}
+use mathlib.Core.List.{List, [], _++_}
+use lib.Dec.{eqb, ltb}
+use lib.ListN.{length, getD, replicate}
+use Rattle.laws.specs.Initial.{Initial, here, elsewhere}
+use Rattle.laws.specs.Pieces.{pieces}
+use Rattle.round.specs.Rows.{rowLength}
+use Rattle.round.specs.declared.Donors.{Donors}
+use Rattle.round.specs.declared.Donors.the-variants.{None, One, Two}
+use Rattle.round.specs.declared.Selected.{Selected}
+use Rattle.round.specs.declared.Selected.the-variants.{At as AtPlace, Short}
+use Rattle.sheet.specs.Sheet.{mostRounds, Lift, sheetOf}
+use Rattle.sheet.specs.Reading.{numbered}
+use Rattle.sheet.specs.Refusal.{refusal}
+use Rattle.sheet.specs.Reply.{Reply, ofRefusal, replied, onto}
+use Rattle.rows.specs.Rows.{placeIn}
+use Rattle.sheet.specs.declared.Found.{Found}
+use Rattle.sheet.specs.declared.Found.the-variants.{At, Nothing}
+use Rattle.selection.specs.Choice.{Choice, Panel, chosen, short, byRound, pair}
+use Rattle.carry.specs.Next.{carriedOn, inTable}
+use Rattle.panel.specs.declared.Step.{Step}
+use Rattle.panel.specs.declared.Step.the-variants.{Passed, Chosen as ChosenLift, Short as Ended}
+use Rattle.panel.specs.declared.Picks.{Picks}
+use Rattle.panel.specs.declared.Answer.{Answer}
+use Rattle.panel.specs.declared.Answer.the-variants.{Sheet, Start, Output, Next, Words, Chosen}
+
+-- ---- one round
+
+-- two donors with their old sums from a table; a number above the highest round's is none
+abbrev pub withTable : (first second : ℕ) → List ℕ → Donors
+withTable first second sums =
+    cond (ltb mostRounds first) None (cond (ltb mostRounds second) (One (getD sums first 0)) (Two (getD sums first 0) (getD sums second 0)))
+
+-- where the held lift of a donor stands in the round whose rows begin at row a and end before row e
+abbrev pub seatIn : (donor : ℕ) → List ℕ → (a e : ℕ) → Initial
+seatIn donor seats a e = cond (ltb mostRounds donor) elsewhere (placeIn a e (getD seats donor 0))
+
+-- a place that was looked for
+abbrev pub initialOf : Found → Initial
+initialOf (At i) = here i
+initialOf Nothing = elsewhere
+
+-- the choice of a round of these rows, by the lift's number
+abbrev pub chosenOf : List ℕ → Selected → Step
+chosenOf rows (AtPlace i o next) = ChosenLift (getD (getD (pieces rowLength rows) i []) 0 0) o next
+chosenOf rows Short = Ended
+
+-- a round without lifts is passed over
+abbrev pub stepOf : List ℕ → Selected → Step
+stepOf rows s = cond (eqb (length rows) 0) Passed (chosenOf rows s)
+
+-- ---- all rounds
+
+-- the code's choices are those of the panel
+pub record Gathers (cs : List Choice) (behind : ℕ) (p : Picks) : Type 0 where
+  pub numbers : p .numbers ≡ byRound (λ c. c .number) cs (replicate (mostRounds + 1) 0)
+  pub outcomes : p .outcomes ≡ byRound (λ c. c .outcome) cs (replicate (mostRounds + 1) 0)
+  pub next : p .next ≡ behind
+  pub finished : p .short ≡ 0
+
+abbrev pub Picked : Panel → Picks → Type 0
+Picked (chosen cs next) p = Gathers cs next p
+Picked (short r) p = (0 < r) × (p .short ≡ r)
+
+-- ---- the output
+
+-- the pairs of those of n rounds from r up that have an outcome, from the numbers and outcomes by round
+unfoldable pub pairsFrom : List ℕ → List ℕ → ℕ → ℕ → List ℕ
+pairsFrom ns os r zero = []
+pairsFrom ns os r (suc n) = cond (eqb (getD os r 0) 0) [] (pair r (getD ns r 0) (getD os r 0)) ++ pairsFrom ns os (suc r) n
+
+-- those of all rounds
+abbrev pub pairs : List ℕ → List ℕ → List ℕ
+pairs ns os = pairsFrom ns os 1 mostRounds
+
+-- the output with the pairs, and behind them what it had
+abbrev pub withPairs : List ℕ → List ℕ → List ℕ → List ℕ
+withPairs ns os out = onto (pairs ns os) out
+
+-- the pairs have room in an output of so many words, and the numbers and outcomes in a pair
+pub record PairsFit (ns os : List ℕ) (room : ℕ) : Type 0 where
+  pub few : length (pairs ns os) ≤ room
+  pub numbers : (r : ℕ) → getD ns r 0 < 2 ^ 28
+  pub outcomes : (r : ℕ) → getD os r 0 ≤ 3
+
+-- ---- the answer
+
+-- what an answer replies: the document's number and values for each case
+abbrev pub told : Answer → Reply
+told (Sheet x) = ofRefusal (refusal x)
+told (Start at) = ofRefusal (numbered 11 at)
+told (Output need) = ofRefusal (numbered 12 need)
+told (Next need) = ofRefusal (numbered 17 need)
+told (Words r) = ofRefusal (numbered 13 r)
+told (Chosen n k) = replied n k
+
+-- what the choices of so many rounds reply: how many there are and how many words were read, or the round in which the words ended
+abbrev pub toldBy : Picks → (rounds start : ℕ) → Reply
+toldBy p rounds start = cond (eqb (p .short) 0) (replied rounds (p .next - start)) (ofRefusal (numbered 13 (p .short)))
+
+-- the output with their pairs, or as it was where the words ended
+abbrev pub writtenBy : Picks → List ℕ → List ℕ
+writtenBy p out = cond (eqb (p .short) 0) (withPairs (p .numbers) (p .outcomes) out) out
+
+-- ---- next quarter's sheet
+
+-- the sheet with the held marks that the choices by round give
+abbrev pub sheetBy : Picks → List Lift → List ℕ
+sheetBy p ls = sheetOf (carriedOn (inTable (p .numbers)) ls)
+
+-- a lent sheet with it, or as it was where the words ended
+abbrev pub carriedBy : Picks → List Lift → List ℕ → List ℕ
+carriedBy p ls next = cond (eqb (p .short) 0) (onto (sheetBy p ls) next) next

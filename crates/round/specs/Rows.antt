@@ -1,0 +1,130 @@
+-- A round lent as rows, what a caller shows of it, and its weights as the code computes them.
+use Prim.Native.Nat.{ℕ, _+_, _-_, _*_, _^_, _≤_, _<_}
+use mathlib.Core.Path.{_≡_}
+use mathlib.Core.Bool.{Bool, cond}
+use mathlib.Core.List.{List, map}
+use lib.ListN.{length, getD, take, drop}
+use lib.Dec.{ltb, eqb}
+use Rattle.laws.specs.Sum.{total}
+use Rattle.laws.specs.Interval.{pick}
+use Rattle.laws.specs.Plan.{Plan, done, draw}
+use Rattle.laws.specs.Pieces.{pieces}
+use Rattle.round.specs.Round.{S, U, Weight, growth, G, Fitting}
+use Rattle.round.specs.Choice.{Selection, selection}
+use Rattle.round.specs.declared.Donors.{Donors}
+use Rattle.round.specs.declared.Donors.the-variants.{None, One, Two}
+use Rattle.round.specs.declared.Held.{Held}
+use Rattle.round.specs.declared.Held.the-variants.{Neither, Single, Both}
+use Rattle.round.specs.declared.Lift.{Lift}
+use Rattle.round.specs.declared.Scale.{Scale}
+use Rattle.round.specs.declared.Sums.{Sums}
+
+-- ---- what the code is given
+
+-- the lift of an old measure, a donor and a new measure
+abbrev pub lift : ℕ → ℕ → ℕ → Lift
+lift m d b = record { old = m; donor = d; new = b }
+
+-- how many numbers a row has
+abbrev pub rowLength : ℕ
+rowLength = 4
+
+-- the lift of a row: lift number, donor, old measure, new measure
+abbrev pub liftOf : List ℕ → Lift
+liftOf row = lift (getD row 2 0) (getD row 1 0) (getD row 3 0)
+
+-- the round whose rows these are, in lift order
+unfoldable pub lifts : List ℕ → List Lift
+lifts rows = map liftOf (pieces rowLength rows)
+
+-- the sums up to which the products of a round fit 64 bits; the sheet's largest sum is not above it
+abbrev pub capacity : ℕ
+capacity = 2 ^ 20
+
+-- the donors' whole old sums
+abbrev pub SumsBounded : Donors → Type 0
+SumsBounded None = Unit {0}
+SumsBounded (One T) = T ≤ capacity
+SumsBounded (Two T₁ T₂) = (T₁ ≤ capacity) × (T₂ ≤ capacity)
+
+-- no sum is above that
+pub record Bounded (ds : Donors) (ls : List Lift) : Type 0 where
+  pub new : S ls ≤ capacity
+  pub old : SumsBounded ds
+
+-- held lifts stand at places of the round; there is one only with a donor, and both only with two
+abbrev pub Stands : Donors → Held → ℕ → Type 0
+Stands ds Neither n = Unit {0}
+Stands None (Single i) n = ⊥
+Stands (One T) (Single i) n = i < n
+Stands (Two T₁ T₂) (Single i) n = i < n
+Stands None (Both i j) n = ⊥
+Stands (One T) (Both i j) n = ⊥
+Stands (Two T₁ T₂) (Both i j) n = (i < n) × (j < n)
+
+-- what a caller shows of the round and its held lifts: every fitting sheet gives it
+pub record Callable (ds : Donors) (ls : List Lift) (h : Held) : Type 0 where
+  pub fitting : Fitting ds ls
+  pub bounded : Bounded ds ls
+  pub stands : Stands ds h (length ls)
+
+-- ---- how the code computes
+
+-- S, and U of donor 1 and of the last donor, k
+abbrev pub sumsOf : ℕ → List Lift → Sums
+sumsOf k ls = record { new = S ls; first = U 1 ls; last = U k ls }
+
+-- none of the sums is above the capacity
+pub record Small (t : Sums) : Type 0 where
+  pub new : t .new ≤ capacity
+  pub first : t .first ≤ capacity
+  pub last : t .last ≤ capacity
+
+-- what a donor's old measures are multiplied by
+abbrev pub multiplierOf : Scale → ℕ → ℕ
+multiplierOf s d = cond (eqb d 1) (s .first) (cond (eqb d 2) (s .second) 0)
+
+-- a lift's old and new weight by the multipliers
+abbrev pub scaled : Scale → Lift → Weight
+scaled s l = record { old = l .old * multiplierOf s (l .donor); new = l .new * s .new }
+
+-- the multipliers that give a round's weights, D and U2 × T1 with them
+unfoldable pub scaleOf : Donors → List Lift → Scale
+scaleOf None ls = record { new = 0; first = 0; second = 0; odds = 0 }
+scaleOf (One T) ls = record { new = U 1 ls; first = S ls; second = 0; odds = 0 }
+scaleOf (Two T₁ T₂) ls = record { new = U 1 ls * T₂ + U 2 ls * T₁; first = T₂ * S ls; second = T₁ * S ls; odds = U 2 ls * T₁ }
+
+-- the multipliers with which each lift grows by its whole new measure
+abbrev pub wholly : Scale
+wholly = record { new = 1; first = 0; second = 0; odds = 0 }
+
+-- "at most 2^61": the old weights together and the new weights together
+pub record Room (s : Scale) (ls : List Lift) : Type 0 where
+  pub olds : total (map (λ l. scaled s l .old) ls) ≤ 2 ^ 61
+  pub news : total (map (λ l. scaled s l .new) ls) ≤ 2 ^ 61
+
+-- the weights of one lift
+pub record LiftRoom (s : Scale) (l : Lift) : Type 0 where
+  pub old : scaled s l .old ≤ 2 ^ 61
+  pub new : scaled s l .new ≤ 2 ^ 61
+
+-- "Both weights sum to D × S": the old weights and the new ones have the same sum
+pub record Balanced (s : Scale) (ls : List Lift) : Type 0 where
+  pub sums : total (map (λ l. scaled s l .old) ls) ≡ total (map (λ l. scaled s l .new) ls)
+
+-- the most lifts that are lent at a time: a round is searched by blocks, all as long but the last
+abbrev pub blockLength : ℕ
+blockLength = 16
+
+-- where the block that begins at place a ends, in a round of n lifts
+abbrev pub blockEnd : ℕ → ℕ → ℕ
+blockEnd a n = cond (ltb (n - a) blockLength) n (a + blockLength)
+
+-- the lifts from place a up to place e
+abbrev pub between : ℕ → ℕ → List Lift → List Lift
+between a e ls = take (e - a) (drop a ls)
+
+-- a draw below the sum of the growths takes the lift in whose interval it falls: a replacement, or fresh where the growths are
+-- the new measures
+unfoldable pub drawGrowth : Bool → List Weight → Plan Selection
+drawGrowth dropped ws = draw (G ws) (λ q. done (selection (pick (map growth ws) q) dropped))

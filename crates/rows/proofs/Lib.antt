@@ -1,0 +1,4 @@
+pub mod SettingBits
+pub mod Placing
+pub mod Seating
+pub mod Layouts
