@@ -1,6 +1,7 @@
 -- The cases, computed.
 use mathlib.Core.Path.{_≡_, refl}
 use mathlib.Core.Bool.{true}
+use Rattle.laws.specs.Same.{allRight}
 use Rattle.laws.specs.Among.{among}
 use Rattle.laws.specs.Sum.{total, totalBy}
 use Rattle.laws.specs.Interval.{pick}
@@ -16,12 +17,12 @@ use Rattle.sheet.specs.Rounds.{those, sends, ofRound, heldAt}
 use Rattle.selection.specs.Choice.{donorsOf, liftsOf, heldIn, planOf, liftAt, panelFrom, written}
 use Rattle.carry.specs.Next.{remaining}
 use Rattle.carry.specs.Reply.{replyNext, outputNext, lentSheet}
-use Rattle.carry.specs.Worked.{cases, cornerCases, allRight}
+use Rattle.carry.specs.Worked.{cases, cornerCases, right}
 
-pub all-right : allRight cases ≡ true
+pub all-right : allRight right cases ≡ true
 unfolding total totalBy pick after drawFrom run S U D oldWeight newWeight weights G fresh firstOdds preliminary stayOr replacement keyfitz select plan outcome lifts writtenLifts fault readFrom those sends ofRound firstRound ofRounds verdict donorsOf liftsOf heldAt heldIn planOf liftAt panelFrom written remaining among replyNext outputNext lentSheet
 all-right = refl
 
-pub corners-right : allRight cornerCases ≡ true
+pub corners-right : allRight right cornerCases ≡ true
 unfolding total totalBy pick after drawFrom run S U D oldWeight newWeight weights G fresh firstOdds preliminary stayOr replacement keyfitz select plan outcome lifts writtenLifts fault readFrom those sends ofRound firstRound ofRounds verdict donorsOf liftsOf heldAt heldIn planOf liftAt panelFrom written remaining among replyNext outputNext lentSheet
 corners-right = refl

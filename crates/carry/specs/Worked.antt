@@ -27,15 +27,11 @@ refused sheet ws start out next n place =
     record { sheet = sheet; words = ws; start = start; out = out; next = next; reply = numbers n place 0; written = out; carried = next }
 
 -- whether the definitions give the reply, the output and the lent sheet
-abbrev right : Case → Bool
+abbrev pub right : Case → Bool
 right c =
     sameReply (replyNext (c .sheet) (c .words) (c .start) (length (c .out)) (length (c .next))) (c .reply)
     && (same (outputNext (c .sheet) (c .words) (c .start) (c .out) (length (c .next))) (c .written)
     && same (lentSheet (c .sheet) (c .words) (c .start) (length (c .out)) (c .next)) (c .carried))
-
-abbrev pub allRight : List Case → Bool
-allRight [] = true
-allRight (c ∷ cs) = right c && allRight cs
 
 -- new round 1 has lift 11, counted, and 12, held and not counted; 13 is withdrawn; round 2 has a newcomer
 abbrev quarter : List ℕ

@@ -37,10 +37,6 @@ right c =
     let r = reply (c .sheet) (bytes (c .text)) in
     eqb (r .number) (c .number) && (eqb (r .second) (c .second) && (eqb (r .third) 0 && same (output (c .sheet) (bytes (c .text))) (c .after)))
 
-abbrev pub allRight : List Case → Bool
-allRight [] = true
-allRight (c ∷ cs) = right c && allRight cs
-
 -- ---- the lines
 
 -- the document's sheet with other new places of lifts 11, 12 and 13

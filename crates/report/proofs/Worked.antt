@@ -1,6 +1,7 @@
 -- The table of files, computed. Assumes nothing.
 use mathlib.Core.Path.{_≡_, refl}
 use mathlib.Core.Bool.{true}
+use Rattle.laws.specs.Same.{allRight}
 use Rattle.laws.specs.Interval.{pick}
 use Rattle.laws.specs.Pieces.{cut}
 use Rattle.laws.specs.Plan.{after}
@@ -15,8 +16,8 @@ use Rattle.sheet.specs.Refusal.{firstRound, ofRounds, verdict}
 use Rattle.sheet.specs.Rounds.{those, sends, ofRound, heldAt}
 use Rattle.selection.specs.Choice.{donorsOf, liftsOf, heldIn, planOf, liftAt, panelFrom, reply}
 use Rattle.report.specs.Report.{littleEndian, wordsOf, digits, decimal, field, line, lines, wordsLine, refusedLine, textOf, report}
-use Rattle.report.specs.Worked.{cases, allRight}
+use Rattle.report.specs.Worked.{cases, right}
 
-pub all-right : allRight cases ≡ true
+pub all-right : allRight right cases ≡ true
 unfolding pick cut after total totalBy drawFrom run S U D oldWeight newWeight weights G fresh firstOdds preliminary stayOr replacement keyfitz select plan outcome lifts fault readFrom those sends ofRound firstRound ofRounds verdict donorsOf liftsOf heldAt heldIn planOf liftAt panelFrom reply littleEndian wordsOf digits decimal field line lines wordsLine refusedLine textOf report
 all-right = refl

@@ -1,7 +1,7 @@
 -- Files with what is printed of them, as one table to be computed. Its numbers and letters are literals, so that none of them can change in
 -- definition and code together.
 use Prim.Native.Nat.{ℕ, zero, suc, _/_, _%_}
-use mathlib.Core.Bool.{Bool, true, _&&_}
+use mathlib.Core.Bool.{Bool}
 use mathlib.Core.List.{List, [], _∷_, _++_}
 use lib.ListN.{length}
 use Rattle.laws.specs.Same.{same}
@@ -23,9 +23,9 @@ case sheet words text = record { sheet = sheet; size = length sheet; words = wor
 abbrev long : ℕ → List ℕ → Case
 long size text = record { sheet = []; size = size; words = []; text = text }
 
-abbrev pub allRight : List Case → Bool
-allRight [] = true
-allRight (c ∷ cs) = same (report (c .sheet) (c .size) (c .words)) (c .text) && allRight cs
+-- whether the definitions give the text
+abbrev pub right : Case → Bool
+right c = same (report (c .sheet) (c .size) (c .words)) (c .text)
 
 -- the bytes of a number, the lowest first
 abbrev bytes : ℕ → ℕ → List ℕ

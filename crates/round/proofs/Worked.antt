@@ -2,6 +2,7 @@
 use Prim.Native.Nat.{ℕ, zero, suc, _*_, _<_}
 use mathlib.Core.Path.{_≡_, refl}
 use mathlib.Core.Bool.{true}
+use Rattle.laws.specs.Same.{allRight}
 use native.Mathlib.Omega.{arith}
 use Rattle.laws.specs.Sum.{over, Σ, total, totalBy}
 use Rattle.laws.specs.Interval.{pick}
@@ -13,9 +14,9 @@ use Rattle.round.specs.Choice.{fresh, firstOdds, preliminary, stayOr, re
 use Rattle.round.specs.Share.{overInitial, overHeld, share}
 use Rattle.round.specs.Keep.{kept, Coupling}
 use Rattle.round.specs.declared.Donors.the-variants.{One}
-use Rattle.round.specs.Worked.{cases, allRight, rightFigures, rightShares, exchanged, rule, rightKeeping}
+use Rattle.round.specs.Worked.{cases, right, rightFigures, rightShares, exchanged, rule, rightKeeping}
 
-pub all-right : allRight cases ≡ true
+pub all-right : allRight right cases ≡ true
 unfolding total totalBy pick after drawFrom run S U D oldWeight newWeight weights G fresh firstOdds preliminary stayOr replacement keyfitz select plan outcome
 all-right = refl
 

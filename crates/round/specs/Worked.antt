@@ -40,10 +40,6 @@ abbrev pub right : Case → Bool
 right (chosen ds ls h ws a) = sameSelected (selected ds ls h ws 0) a
 right (drawn b ws a) = sameDrawn (drawAt largest ws 0 b) a
 
-abbrev pub allRight : List Case → Bool
-allRight [] = true
-allRight (c ∷ cs) = right c && allRight cs
-
 -- "Lifts 11, 12, 13, old 2, 3, 5, new 4, 1, 5"
 abbrev three : List Lift
 three = lift 2 1 4 ∷ lift 3 1 1 ∷ lift 5 1 5 ∷ []

@@ -1,6 +1,7 @@
 -- The document's cases, and the exact shares and keeping of small sheets, computed.
 use mathlib.Core.Path.{_≡_, refl}
 use mathlib.Core.Bool.{true}
+use Rattle.laws.specs.Same.{allRight}
 use Rattle.laws.specs.Among.{among}
 use Rattle.laws.specs.Sum.{over, total, totalBy}
 use Rattle.laws.specs.Interval.{pick}
@@ -16,13 +17,13 @@ use Rattle.sheet.specs.Rounds.{those, sends, ofRound, heldAt}
 use Rattle.selection.specs.Choice.{donorsOf, liftsOf, heldIn, planOf, liftAt, panelFrom, reply, written, output}
 use Rattle.selection.specs.Initial.{eligible, each, selectionsFrom, marked, product, odds, sumOver, overSelections}
 use Rattle.selection.specs.Fair.{share, kept}
-use Rattle.selection.specs.Worked.{cases, silentCases, allRight, rightShares, rightKeeping}
+use Rattle.selection.specs.Worked.{cases, silentCases, right, rightShares, rightKeeping}
 
-pub all-right : allRight cases ≡ true
+pub all-right : allRight right cases ≡ true
 unfolding total totalBy pick after drawFrom run S U D oldWeight newWeight weights G fresh firstOdds preliminary stayOr replacement keyfitz select plan outcome lifts writtenLifts fault readFrom those sends ofRound firstRound ofRounds verdict donorsOf liftsOf heldAt heldIn planOf liftAt panelFrom reply written output
 all-right = refl
 
-pub silent-right : allRight silentCases ≡ true
+pub silent-right : allRight right silentCases ≡ true
 unfolding total totalBy pick after drawFrom run S U D oldWeight newWeight weights G fresh firstOdds preliminary stayOr replacement keyfitz select plan outcome lifts writtenLifts fault readFrom those sends ofRound firstRound ofRounds verdict donorsOf liftsOf heldAt heldIn planOf liftAt panelFrom reply written output
 silent-right = refl
 

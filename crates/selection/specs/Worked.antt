@@ -41,10 +41,6 @@ right c =
     sameReply (reply (c .sheet) (c .words) (c .start) (length (c .out))) (c .reply)
     && same (output (c .sheet) (c .words) (c .start) (c .out)) (c .written)
 
-abbrev pub allRight : List Case → Bool
-allRight [] = true
-allRight (c ∷ cs) = right c && allRight cs
-
 -- "Lifts 11, 12, 13, old 2, 3, 5, new 4, 1, 5", the lift of a number held
 abbrev three : ℕ → List ℕ
 three n = sheetOf (lift 11 1 2 1 4 (eqb n 11) ∷ lift 12 1 3 1 1 (eqb n 12) ∷ lift 13 1 5 1 5 (eqb n 13) ∷ [])

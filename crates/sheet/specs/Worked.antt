@@ -24,9 +24,9 @@ sameVerdict (refused x) (fits n k) = false
 sameVerdict (fits n k) (refused y) = false
 sameVerdict (fits n k) (fits m j) = eqb n m && eqb k j
 
-abbrev pub allRight : List Case → Bool
-allRight [] = true
-allRight (c ∷ cs) = sameVerdict (verdict (c .sheet)) (c .answer) && allRight cs
+-- whether the definitions give the answer
+abbrev pub right : Case → Bool
+right c = sameVerdict (verdict (c .sheet)) (c .answer)
 
 -- a lift by its number, old place, new place and whether it is held
 abbrev pub lift : ℕ → ℕ → ℕ → ℕ → ℕ → Bool → Lift
