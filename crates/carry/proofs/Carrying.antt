@@ -129,7 +129,7 @@ module _ (ls : List Lift) (f : Fit ls) {ws : List ℕ} {start next : ℕ} {cs : 
   replies : (vs : List ℕ) (at room : ℕ) → at ≤ length vs → 2 * length cs ≤ room → reply (nextSheet cs ls) vs at room ≡ replied (length cs) 0
   unfolding reply
   replies vs at room a b =
-      rw (fitting, back, ← steps-count k .0, le-ltb (length vs) at a, le-ltb room (2 * length cs) b, keeps vs at, length-map cs again, sub-self at)
+      rw (fitting, back, ← steps-count k, le-ltb (length vs) at a, le-ltb room (2 * length cs) b, keeps vs at, length-map cs again, sub-self at)
 
   writes : (vs : List ℕ) (at : ℕ) (out : List ℕ) → at ≤ length vs → 2 * length cs ≤ length out → output (nextSheet cs ls) vs at out ≡ written (map again cs) out
   unfolding output

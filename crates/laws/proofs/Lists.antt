@@ -1,10 +1,12 @@
--- What holds of every element of a list, by induction along it.
-use Prim.Native.Nat.{ℕ, zero, suc}
-use mathlib.Core.Path.{_≡_, refl}
+-- What holds of every element of a list, by induction along it, and a part of a list as it is lent.
+use Prim.Native.Nat.{ℕ, zero, suc, _-_}
+use mathlib.Core.Path.{_≡_, refl, ap}
 use mathlib.Core.Bool.{Bool, true, false, cond}
 use mathlib.Core.List.{List, [], _∷_, _++_, map, List·Memᴰ, List·Memᴰ·head, List·Memᴰ·tail, List·Memᴰ·not-nil, List·Memᴰ·cases-cons, List·Memᴰ·append-cases}
 use mathlib.Core.Logic.{_⊎_, inl, inr}
-use lib.ListN.{getD}
+use native.Mathlib.Nat.{sub-zero, zero-sub, suc-sub-suc}
+use lib.ListN.{getD, take, drop}
+use lib.Seq.{slice, take-nil, drop-nil}
 
 abbrev pub All : {A : Type 0} → (A → Type 0) → List A → Type 0
 All {A} P xs = (x : A) → List·Memᴰ x xs → P x
@@ -40,3 +42,10 @@ module _ {A : Type 0} (P : A → Type 0) where
   all-getD z [] h i = z
   all-getD z (x ∷ xs) h zero = h x (List·Memᴰ·head refl)
   all-getD z (x ∷ xs) h (suc i) = all-getD z xs (λ y m. h y (List·Memᴰ·tail m)) i
+
+-- a part from a to e, as it is lent
+pub slice-lent : {A : Type 0} (a e : ℕ) (l : List A) → take (e - a) (drop a l) ≡ slice a e l
+slice-lent zero e l = ap (λ n. take n l) (sub-zero e)
+slice-lent (suc a) zero l = rw (zero-sub (suc a), drop-nil) refl
+slice-lent (suc a) (suc e) [] = take-nil (suc e - suc a)
+slice-lent (suc a) (suc e) (x ∷ l) = rw (suc-sub-suc e a) (slice-lent a e l)

@@ -8,16 +8,12 @@ use native.Mathlib.Numerals.{add-one}
 use native.Mathlib.Omega.{arith}
 use lib.Dec.{leb}
 use lib.ListN.{length, getD, take, drop, set, length-append, length-drop}
-use lib.Seq.{take-nil, take-take, take-at, drop-drop, drop-at, getD-take, getD-drop, getD-at, set-at, length-take-le, take-all, sets, length-sets, sets-eq}
+use lib.Seq.{slice, take-take, take-at, drop-drop, drop-at, getD-take, getD-drop, getD-at, set-at, length-take-le, take-all, sets, length-sets, sets-eq}
 use borrow.Author.Tests.{leb-true, leb-false}
 use Rattle.laws.specs.Pieces.{cut, pieces}
+use Rattle.laws.proofs.Lists.{slice-lent}
 
 -- ---- n pieces
-
-drop-take : {A : Type 0} (k m : ℕ) (xs : List A) → drop k (take (k + m) xs) ≡ take m (drop k xs)
-drop-take zero m xs = rw zero-add
-drop-take (suc k) m [] = rw (suc-add, take-nil m)
-drop-take (suc k) m (x ∷ xs) = rw suc-add (drop-take k m xs)
 
 module _ {A : Type 0} (k : ℕ) where
   cut-length : (n : ℕ) (xs : List A) → length (cut k n xs) ≡ n
@@ -52,8 +48,7 @@ module _ {A : Type 0} (k : ℕ) where
   unfolding cut
   cut-within zero m xs h = refl
   cut-within (suc n) m xs h =
-      let more : m ≡ k + (m - k) = omega arith in
-      ap₂ _∷_ (take-take k m xs (omega arith)) (ap (λ l. cut k n (drop k (take l xs))) more ∙ rw (drop-take k (m - k) xs) (cut-within n (m - k) (drop k xs) (omega arith)))
+      ap₂ _∷_ (take-take k m xs (omega arith)) (rw (← slice-lent k m xs) (cut-within n (m - k) (drop k xs) (omega arith)))
 
 -- ---- the whole pieces of a list
 
@@ -88,12 +83,13 @@ pieces-more k p xs some e = rw (length-append p xs, e, add-div-left (length xs) 
 
 -- the pieces of a part that begins and ends at their borders
 pub pieces-part : {A : Type 0} (k a e : ℕ) (xs : List A) → 0 < k → a ≤ e → e ≤ length xs / k
-    → pieces k (take (k * e - k * a) (drop (k * a) xs)) ≡ take (e - a) (drop a (pieces k xs))
+    → pieces k (take (k * e - k * a) (drop (k * a) xs)) ≡ slice a e (pieces k xs)
 pieces-part k a e xs some h l =
     let n = length xs / k in
     let span : k * e - k * a ≡ k * (e - a) = sym (mul-sub k e a) in
     let inside : k * (e - a) ≤ length (drop (k * a) xs) = rw (length-drop, ← span) (omega (arith, mul-le-mul-left k l, mul-div-le (length xs) k)) in
     rw (
+      ← slice-lent a e (pieces k xs),
       span,
       length-take-le (k * (e - a)) (drop (k * a) xs) inside,
       mul-div-cancel-left (e - a) some,

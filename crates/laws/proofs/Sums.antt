@@ -8,7 +8,7 @@ use native.Mathlib.Omega.{arith}
 use lib.ListN.{length, getD, take, drop}
 use lib.Dec.{ltb, eqb, eqb·suc-zero, eqb·zero-suc, eqb·suc-suc}
 use borrow.Author.Tests.{eqb-true, lt-ltb, le-ltb}
-use Rattle.laws.specs.Sum.{over, Σ, total, totalBy, indicator, count}
+use Rattle.laws.specs.Sum.{over, Σ, total, valueBy, totalBy, indicator, count}
 use Rattle.laws.proofs.Lists.{All}
 
 -- ---- over a range
@@ -159,14 +159,14 @@ pub Σ-totalBy : {A : Type 0} (key value : A → ℕ) (d : A) (n : ℕ) (xs : Li
 unfolding total totalBy
 Σ-totalBy key value d n [] h = Σ-const n 0 ∙ omega arith
 Σ-totalBy key value d n (x ∷ xs) h =
-    Σ-add n (λ k. cond (eqb (key x) k) (value x) 0) (λ k. totalBy key value k xs)
+    Σ-add n (λ k. valueBy key value k x) (λ k. totalBy key value k xs)
     ∙ ap₂ _+_ (cond-one n (key x) (value x) (h 0 (omega arith))) (Σ-totalBy key value d n xs (λ i l. h (suc i) (omega arith)))
 
 -- a sum by key as the sum of a list
-pub totalBy-map : {A : Type 0} (key value : A → ℕ) (k : ℕ) (xs : List A) → totalBy key value k xs ≡ total (map (λ x. cond (eqb (key x) k) (value x) 0) xs)
+pub totalBy-map : {A : Type 0} (key value : A → ℕ) (k : ℕ) (xs : List A) → totalBy key value k xs ≡ total (map (valueBy key value k) xs)
 unfolding total totalBy
 totalBy-map key value k [] = refl
-totalBy-map key value k (x ∷ xs) = ap (λ t. cond (eqb (key x) k) (value x) 0 + t) (totalBy-map key value k xs)
+totalBy-map key value k (x ∷ xs) = ap (λ t. valueBy key value k x + t) (totalBy-map key value k xs)
 
 module _ {A : Type 0} (key : A → ℕ) (k : ℕ) where
   -- no value with the key, no sum

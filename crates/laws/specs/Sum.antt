@@ -18,10 +18,14 @@ unfoldable pub total : List ℕ → ℕ
 total [] = 0
 total (n ∷ ns) = n + total ns
 
+-- the value of an element whose key is k, 0 of another
+abbrev pub valueBy : {A : Type 0} → (A → ℕ) → (A → ℕ) → ℕ → A → ℕ
+valueBy key value k x = cond (eqb (key x) k) (value x) 0
+
 -- the sum of `value` over the elements of a list whose key is k
 unfoldable pub totalBy : {A : Type 0} → (A → ℕ) → (A → ℕ) → ℕ → List A → ℕ
 totalBy key value k [] = 0
-totalBy key value k (x ∷ xs) = cond (eqb (key x) k) (value x) 0 + totalBy key value k xs
+totalBy key value k (x ∷ xs) = valueBy key value k x + totalBy key value k xs
 
 -- 1 where a test passes, 0 where it does not
 abbrev pub indicator : Bool → ℕ

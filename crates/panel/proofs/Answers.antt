@@ -7,20 +7,20 @@ use native.Mathlib.Omega.{arith}
 use lib.Dec.{ltb}
 use lib.ListN.{length}
 use borrow.Author.Tests.{eq-eqb, ne-eqb, ltb-false, lt-ltb, le-ltb}
-use Rattle.sheet.specs.Sheet.{mostRounds, Lift, lifts}
+use Rattle.sheet.specs.Sheet.{Lift, lifts}
 use Rattle.sheet.specs.Reading.{Numbered, numbered}
-use Rattle.sheet.specs.Rounds.{named, inUse}
+use Rattle.sheet.specs.Rounds.{inUse}
 use Rattle.sheet.specs.Law.{Fit}
-use Rattle.sheet.proofs.Those.{those-few, those-rise}
 use Rattle.sheet.specs.Refusal.{refused, fits, verdict}
 use Rattle.sheet.specs.Reply.{Reply, replied, ofRefusal, unlessRefused}
 use Rattle.sheet.proofs.Verdicts.{decided}
 use Rattle.sheet.specs.declared.Side.the-variants.{New}
 use Rattle.selection.specs.Choice.{Choice, Panel, chosen, short, panel, ofPanel, unlessLacking, ofLent, reply, written, writtenOf, output}
-use Rattle.selection.proofs.Steps.{Steps, steps, steps-count}
+use Rattle.selection.proofs.Steps.{Steps, steps, steps-count, steps-between}
+use Rattle.selection.proofs.Choices.{panel-rises}
 use Rattle.panel.specs.Choosing.{Gathers, Picked, pairs, PairsFit, toldBy, writtenBy}
 use Rattle.panel.specs.declared.Picks.{Picks}
-use Rattle.panel.proofs.Tabled.{Rises, steps-rise, tabled-each, pairs-tabled, length-written, written-behind}
+use Rattle.panel.proofs.Tabled.{tabled-each, pairs-tabled, length-written, written-behind}
 
 -- ---- the choices gathered
 
@@ -42,31 +42,27 @@ module _ (ls : List Lift) (ws : List ℕ) (start : ℕ) (p : Picks) (d : Picked 
 
   -- the words were read from the start on
   pub onward : p .short ≡ 0 → start ≤ p .next
-  onward z = let x = done z in omega (arith, x .gathers .next, steps-count (x .steps) .1)
+  onward z = let x = done z in omega (arith, x .gathers .next, steps-between (x .steps) .0)
 
   -- the reply is the panel's
   pub told-panel : toldBy p (length (inUse New ls)) start ≡ ofPanel start (panel ls ws start)
   told-panel = go (panel ls ws start) refl d
     where
       go : (x : Panel) → panel ls ws start ≡ x → Picked x p → toldBy p (length (inUse New ls)) start ≡ ofPanel start x
-      go (chosen cs next) e g = rw (eq-eqb (p .short) 0 (g .finished), ← steps-count (steps ls ws start (inUse New ls) e) .0, g .next)
+      go (chosen cs next) e g = rw (eq-eqb (p .short) 0 (g .finished), ← steps-count (steps ls ws start (inUse New ls) e), g .next)
       go (short r) e g = rw (ne-eqb (p .short) 0 (λ z. omega (arith, g .0, g .1)), g .1)
 
   module _ (f : Fit ls) where
-    -- the choices' rounds rise
-    pub rise : {cs : List Choice} {next : ℕ} → Steps ls ws start (inUse New ls) cs next → Rises 1 cs
-    rise k = steps-rise (f .listable .listed) k 1 (those-rise (λ r. r ≤ mostRounds) (λ r. ltb 0 (named New r ls)) 1 mostRounds (λ r l m e. omega arith))
-
     pairs-are : {cs : List Choice} {next : ℕ} → Gathers cs next p → Steps ls ws start (inUse New ls) cs next → pairs (p .numbers) (p .outcomes) ≡ written cs []
-    pairs-are {cs} g k = rw (g .numbers, g .outcomes) (pairs-tabled cs (rise k))
+    pairs-are {cs} g k = rw (g .numbers, g .outcomes) (pairs-tabled cs (panel-rises f k))
 
     -- the pairs have room where each round has two words
     pub writable : (room : ℕ) → 2 * length (inUse New ls) ≤ room → p .short ≡ 0 → PairsFit (p .numbers) (p .outcomes) room
     writable room h z =
         let x = done z in
-        let r = rise (x .steps) in
+        let r = panel-rises f (x .steps) in
         record {
-          few = rw (pairs-are (x .gathers) (x .steps), length-written (x .choices)) (omega (arith, steps-count (x .steps) .0));
+          few = rw (pairs-are (x .gathers) (x .steps), length-written (x .choices)) (omega (arith, steps-count (x .steps)));
           numbers = rw (x .gathers .numbers) (tabled-each (λ v. v < 2 ^ 28) (λ c. c .number) (λ c s. s .number) (omega arith) (x .choices) r);
           outcomes = rw (x .gathers .outcomes) (tabled-each (λ v. v ≤ 3) (λ c. c .outcome) (λ c s. s .most) (omega arith) (x .choices) r);
         }
@@ -90,9 +86,6 @@ left {y} out new h e = (e, rw (← e, ne-eqb (y .number) 0 h))
 pub left-panel : (start : ℕ) (x : Panel) (out : List ℕ) → writtenOf x out ≡ unlessRefused (ofPanel start x) out (writtenOf x out)
 left-panel start (chosen cs next) out = refl
 left-panel start (short r) out = refl
-
-pub few-rounds : (ls : List Lift) → length (inUse New ls) ≤ mostRounds
-few-rounds ls = those-few (λ r. ltb 0 (named New r ls)) 1 mostRounds
 
 -- 11 or 12, or else what follows: nothing is lacking where the number is 0
 module _ (n words start room : ℕ) where

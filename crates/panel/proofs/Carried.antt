@@ -24,7 +24,8 @@ use Rattle.selection.proofs.Chosen.{Measured, run-measured}
 use Rattle.carry.specs.Next.{carriedOn, isChosen, nextLifts, inTable}
 use Rattle.carry.proofs.Rounds.{carriedOn-ext}
 use Rattle.carry.proofs.Marks.{Used, all-used}
-use Rattle.panel.proofs.Tabled.{Rises, byRound-first}
+use Rattle.selection.proofs.Choices.{Rises}
+use Rattle.panel.proofs.Tabled.{byRound-first}
 
 -- a lift's new round is named
 named-some : {l : Lift} {ls : List Lift} → List·Memᴰ l ls → 0 < named New (l .new .round) ls

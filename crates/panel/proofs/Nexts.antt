@@ -20,7 +20,8 @@ use Rattle.carry.specs.Reply.{ofLentNext, replyNext, outputNext, carriedTo, len
 use Rattle.carry.proofs.Carrying.{carries}
 use Rattle.panel.specs.Choosing.{Gathers, Picked, toldBy, writtenBy, sheetBy, carriedBy}
 use Rattle.panel.specs.declared.Picks.{Picks}
-use Rattle.panel.proofs.Answers.{told-panel, rise, written-panel, left, left-panel, enough}
+use Rattle.selection.proofs.Choices.{panel-rises}
+use Rattle.panel.proofs.Answers.{told-panel, written-panel, left, left-panel, enough}
 use Rattle.panel.proofs.Carried.{table-next}
 
 -- a refusal leaves both
@@ -31,7 +32,7 @@ both-left out new next newer h e = (e, (left out new h e .1, left next newer h e
 -- the lent sheet of choices that are a panel's
 module _ {ls : List Lift} (f : Fit ls) (ws : List ℕ) (start : ℕ) (p : Picks) (d : Picked (panel ls ws start) p) where
   sheet-is : {cs : List Choice} {next : ℕ} → panel ls ws start ≡ chosen cs next → Gathers cs next p → sheetBy p ls ≡ sheetOf (nextLifts cs ls)
-  sheet-is e g = let k = steps ls ws start (inUse New ls) e in rw (g .numbers) (ap sheetOf (table-next f k (rise ls ws start p d f k)))
+  sheet-is e g = let k = steps ls ws start (inUse New ls) e in rw (g .numbers) (ap sheetOf (table-next f k (panel-rises f k)))
 
   -- it has room in "the words needed"
   pub room : {space : ℕ} → wordsNeeded ls (length (inUse New ls)) ≤ space → p .short ≡ 0 → length (sheetBy p ls) ≤ space

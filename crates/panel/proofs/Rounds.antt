@@ -3,15 +3,15 @@ use Prim.Native.Nat.{ℕ, zero, suc, _+_, _*_, _-_, _/_, _≤_, _<_}
 use mathlib.Core.Path.{_≡_, refl, sym, ap, ap₂, _∙_}
 use mathlib.Core.Bool.{Bool, true, false, cond}
 use mathlib.Core.List.{List, [], _∷_, map}
-use native.Mathlib.Nat.{sub-zero, zero-sub, suc-sub-suc, mul-div-cancel-left}
+use native.Mathlib.Nat.{mul-div-cancel-left}
 use native.Mathlib.Numerals.{add-one}
 use native.Mathlib.Omega.{arith}
 use lib.Dec.{eqb, ltb}
 use lib.ListN.{length, getD, take, drop, length-drop}
-use lib.Seq.{slice, take-nil, drop-nil, length-take-le}
+use lib.Seq.{length-take-le}
 use borrow.Author.Tests.{eq-eqb, ne-eqb, eqb-true, ltb-true, ltb-false, lt-ltb, le-ltb}
 use Rattle.laws.specs.Sum.{indicator}
-use Rattle.laws.specs.Initial.{Initial, elsewhere}
+use Rattle.laws.specs.Initial.{elsewhere}
 use Rattle.laws.specs.Pieces.{pieces}
 use Rattle.laws.proofs.Pieces.{pieces-part}
 use Rattle.draw.specs.Draw.{largest}
@@ -19,47 +19,41 @@ use Rattle.draw.specs.Run.{run}
 use Rattle.round.specs.Choice.{answer, selected}
 use Rattle.round.specs.Share.{heldOf}
 use Rattle.round.specs.declared.Donors.{Donors}
+use Rattle.round.specs.declared.Donors.the-variants.{One, Two}
 use Rattle.round.specs.declared.Held.{Held}
 use Rattle.round.specs.declared.Selected.{Selected}
 use Rattle.round.specs.declared.Lift.{Lift as RoundLift}
-use Rattle.round.specs.Rows.{lift, liftOf, lifts as liftsOfRows, Callable, rowLength}
+use Rattle.round.specs.Rows.{liftOf, lifts as liftsOfRows, Callable, rowLength}
 use Rattle.sheet.specs.Sheet.{mostLifts, mostRounds, Lift}
-use Rattle.sheet.specs.Rounds.{placeAt, named, sumOf, heldIn as heldCount, sends, donors, donorNumber, ofRound, heldAt}
+use Rattle.sheet.specs.Rounds.{named, sumOf, sends, donors, donorNumber, ofRound, heldAt}
 use Rattle.sheet.specs.Tables.{tallyOf}
 use Rattle.rows.specs.SetBits.{noBit}
-use Rattle.rows.specs.Rows.{below, rowOf, Laid}
+use Rattle.rows.specs.Rows.{below, rowOf, placeIn, Laid}
 use Rattle.sheet.specs.Law.{Fit}
 use Rattle.sheet.specs.declared.Side.the-variants.{Old, New}
 use Rattle.sheet.specs.declared.Field.the-variants.{Measure}
 use Rattle.rows.specs.declared.Layout.{Layout}
 use Rattle.sheet.proofs.Tables.{getD-tabulate}
 use Rattle.rows.proofs.Placing.{below-le, below-suc, named-length}
-use Rattle.selection.specs.Choice.{withSums, donorsOf, liftsOf, heldAmong, heldIn, planOf, nobody, liftAt}
+use Rattle.selection.specs.Choice.{withSums, donorsOf, inRound, liftsOf, heldAmong, heldIn, planOf, nobody, liftAt}
 use Rattle.selection.proofs.Held.{held-exactly}
 use Rattle.selection.proofs.RoundsFit.{Senders, none, one, two, senders, round-fits, round-bounded, round-stands}
 use Rattle.selection.proofs.Selections.{sends-named}
-use Rattle.panel.specs.Choosing.{withTable, seatIn, chosenOf, stepOf}
+use Rattle.panel.specs.Choosing.{present, chosenOf, stepOf}
 use Rattle.panel.specs.declared.Step.the-variants.{Passed}
 
--- ---- lists
-
--- a part of a list as the code lends it
-slice-part : {A : Type 0} (a e : ℕ) (l : List A) → take (e - a) (drop a l) ≡ slice a e l
-slice-part zero e l = ap (λ n. take n l) (sub-zero e)
-slice-part (suc a) zero l = rw (zero-sub (suc a), drop-nil) refl
-slice-part (suc a) (suc e) [] = take-nil (suc e - suc a)
-slice-part (suc a) (suc e) (x ∷ l) = rw (suc-sub-suc e a) (slice-part a e l)
+-- ---- the lifts of rows
 
 -- the rows of a round's lifts are its lifts
 rows-lifts : (whole : List Lift) (r : ℕ) (ls : List Lift)
     → map liftOf (map (rowOf whole) (ofRound r ls))
-    ≡ map (λ l. lift (l .old .measure) (donorNumber (donors r whole) (l .old .round)) (placeAt New l .measure)) (ofRound r ls)
+    ≡ map (inRound (donorNumber (donors r whole))) (ofRound r ls)
 unfolding ofRound
 rows-lifts whole r [] = refl
 rows-lifts whole r (l ∷ ls) = go (eqb (l .new .round) r) refl (rows-lifts whole r ls)
   where
     of : Lift → RoundLift
-    of l = lift (l .old .measure) (donorNumber (donors r whole) (l .old .round)) (placeAt New l .measure)
+    of = inRound (donorNumber (donors r whole))
 
     go : (t : Bool) → eqb (l .new .round) r ≡ t → map liftOf (map (rowOf whole) (ofRound r ls)) ≡ map of (ofRound r ls)
         → map liftOf (map (rowOf whole) (cond t (l ∷ ofRound r ls) (ofRound r ls))) ≡ map of (cond t (l ∷ ofRound r ls) (ofRound r ls))
@@ -83,13 +77,15 @@ begins x r = getD (x .starts) r 0
 abbrev pub partOf : Layout → ℕ → List ℕ → List ℕ
 partOf x r rows = take (rowLength * begins x (r + 1) - rowLength * begins x r) (drop (rowLength * begins x r) rows)
 
--- its donors and held lifts
+-- its donors, with their old sums, and held lifts
+abbrev donorsAt : Layout → ℕ → List ℕ
+donorsAt x r = present (getD (x .donors) (2 * r) 0) (getD (x .donors) (2 * r + 1) 0)
+
 abbrev pub donorsIn : Layout → List ℕ → ℕ → Donors
-donorsIn x sums r = withTable (getD (x .donors) (2 * r) 0) (getD (x .donors) (2 * r + 1) 0) sums
+donorsIn x sums r = withSums (λ t. getD sums t 0) (donorsAt x r)
 
 abbrev pub marksIn : Layout → ℕ → Held
-marksIn x r =
-    heldOf (seatIn (getD (x .donors) (2 * r) 0) (x .seats) (begins x r) (begins x (r + 1))) (seatIn (getD (x .donors) (2 * r + 1) 0) (x .seats) (begins x r) (begins x (r + 1)))
+marksIn x r = heldAmong (λ t. placeIn (begins x r) (begins x (r + 1)) (getD (x .seats) t 0)) (donorsAt x r)
 
 numbers-are : (ls us : List Lift) (i : ℕ) → getD (getD (map (rowOf ls) us) i []) 0 0 ≡ getD us i nobody .number
 numbers-are ls [] i = refl
@@ -127,7 +123,7 @@ module _ {ls : List Lift} {rows : List ℕ} {x : Layout} {table : List ℕ} (d :
   part-pieces : pieces rowLength (partOf x r rows) ≡ map (rowOf ls) (ofRound r ls)
   part-pieces =
       pieces-part rowLength (begins x r) (begins x (r + 1)) rows (omega arith) (omega (arith, ends)) (omega (arith, many, inside))
-      ∙ slice-part (begins x r) (begins x (r + 1)) (pieces rowLength rows) ∙ rw (begin, end) (d .laid .rows .parts r high)
+      ∙ rw (begin, end) (d .laid .rows .parts r high)
 
   pub part-length : length (partOf x r rows) ≡ rowLength * named New r ls
   part-length = length-take-le (rowLength * begins x (r + 1) - rowLength * begins x r) (drop (rowLength * begins x r) rows) (rw (length-drop (rowLength * begins x r) rows) (omega (arith, d .long, ends, inside))) ∙ omega (arith, ends)
@@ -144,29 +140,35 @@ module _ {ls : List Lift} {rows : List ℕ} {x : Layout} {table : List ℕ} (d :
   sum-is : (t : ℕ) → t ≤ mostRounds → getD table t 0 ≡ sumOf Old t ls
   sum-is t h = ap (λ s. getD s t 0) (d .sums) ∙ getD-tabulate (mostRounds + 1) _ t (omega arith)
 
+  -- the layout's two numbers tell its donors
+  donors-told : donorsAt x r ≡ donors r ls
+  donors-told = rw (d .laid .donors .first r high, d .laid .donors .second r high) (go (donors r ls) (senders (d .fit) low high))
+    where
+      go : (ds : List ℕ) → Senders r ls ds → present (getD ds 0 noBit) (getD ds 1 noBit) ≡ ds
+      go [] none = refl
+      go (t ∷ []) (one s l h) = rw (le-ltb mostRounds t h)
+      go (t ∷ u ∷ []) (two s v l m h) = rw (le-ltb mostRounds t (omega arith), le-ltb mostRounds u h)
+
   pub donors-are : donorsIn x table r ≡ donorsOf r ls
   unfolding donorsOf
-  donors-are = let p = d .laid .donors r high in rw (p .0, p .1) (go (donors r ls) (senders (d .fit) low high))
+  donors-are = rw donors-told (go (donors r ls) (senders (d .fit) low high))
     where
-      go : (ds : List ℕ) → Senders r ls ds → withTable (getD ds 0 noBit) (getD ds 1 noBit) table ≡ withSums ds ls
+      go : (ds : List ℕ) → Senders r ls ds → withSums (λ t. getD table t 0) ds ≡ withSums (λ t. sumOf Old t ls) ds
       go [] none = refl
-      go (t ∷ []) (one s l h) = rw (le-ltb mostRounds t h, sum-is t h)
-      go (t ∷ u ∷ []) (two s v l m h) = rw (le-ltb mostRounds t (omega arith), le-ltb mostRounds u h, sum-is t (omega arith), sum-is u h)
+      go (t ∷ []) (one s l h) = ap One (sum-is t h)
+      go (t ∷ u ∷ []) (two s v l m h) = ap₂ Two (sum-is t (omega arith)) (sum-is u h)
 
   -- a donor has one held lift, which stands at its seat
-  seat-is : (t : ℕ) → sends t r ls ≡ true → 1 ≤ t → t ≤ mostRounds → seatIn t (x .seats) (below r ls) (below (suc r) ls) ≡ heldAt t (ofRound r ls)
+  seat-is : (t : ℕ) → sends t r ls ≡ true → 1 ≤ t → t ≤ mostRounds → placeIn (below r ls) (below (suc r) ls) (getD (x .seats) t 0) ≡ heldAt t (ofRound r ls)
   seat-is t s l h =
-      let one : heldCount t ls ≡ 1 = held-exactly ls t (d .fit .rounds .held t l h) ∙ ap indicator (lt-ltb 0 (named Old t ls) (sends-named t r ls s)) in
-      rw (le-ltb mostRounds t h) (d .laid .seats .seat t h one r high)
+      d .laid .seats .seat t h (held-exactly ls t (d .fit .rounds .held t l h) ∙ ap indicator (lt-ltb 0 (named Old t ls) (sends-named t r ls s))) r high
 
   pub marks-are : marksIn x r ≡ heldIn r ls
   unfolding heldIn
-  marks-are = let p = d .laid .donors r high in rw (p .0, p .1, begin, end) (go (donors r ls) (senders (d .fit) low high))
+  marks-are = rw (donors-told, begin, end) (go (donors r ls) (senders (d .fit) low high))
     where
-      at : ℕ → Initial
-      at t = seatIn t (x .seats) (below r ls) (below (suc r) ls)
-
-      go : (ds : List ℕ) → Senders r ls ds → heldOf (at (getD ds 0 noBit)) (at (getD ds 1 noBit)) ≡ heldAmong ds (ofRound r ls)
+      go : (ds : List ℕ) → Senders r ls ds
+          → heldAmong (λ t. placeIn (below r ls) (below (suc r) ls) (getD (x .seats) t 0)) ds ≡ heldAmong (λ t. heldAt t (ofRound r ls)) ds
       go [] none = refl
       go (t ∷ []) (one s l h) = ap (λ y. heldOf y elsewhere) (seat-is t s l h)
       go (t ∷ u ∷ []) (two s v l m h) = ap₂ heldOf (seat-is t s l (omega arith)) (seat-is u v (omega arith) h)

@@ -1,6 +1,6 @@
 -- The choices of lifts that fit, in tables by round: their rounds rise, so each keeps its place, and the pairs of the tables are those of
 -- the choices.
-use Prim.Native.Nat.{ℕ, zero, suc, _+_, _*_, _^_, _≤_, _<_}
+use Prim.Native.Nat.{ℕ, zero, suc, _+_, _*_, _≤_, _<_}
 use mathlib.Core.Path.{_≡_, refl, ap, _∙_}
 use mathlib.Core.Bool.{Bool, true, false, cond}
 use mathlib.Core.List.{List, [], _∷_, _++_}
@@ -9,67 +9,11 @@ use lib.Dec.{eqb}
 use lib.ListN.{length, getD, set, drop, replicate, length-set}
 use lib.Seq.{getD-set-same, getD-set-other, drop-drop}
 use borrow.Author.Tests.{ne-eqb, eqb-true, eqb-false}
-use Rattle.round.specs.Choice.{Selection, isHeld, outcome}
-use Rattle.round.specs.declared.Held.{Held}
-use Rattle.sheet.specs.Sheet.{mostRounds, Lift}
-use Rattle.sheet.specs.Rounds.{ofRound}
-use Rattle.sheet.specs.Law.{Listed}
-use Rattle.sheet.proofs.Those.{Rising}
-use Rattle.selection.specs.Choice.{heldIn, liftAt, nobody, Choice, byRound, pair, written}
-use Rattle.selection.proofs.Steps.{Steps, none, some}
+use Rattle.round.specs.Choice.{outcome}
+use Rattle.sheet.specs.Sheet.{mostRounds}
+use Rattle.selection.specs.Choice.{Choice, byRound, pair, written}
+use Rattle.selection.proofs.Choices.{Sound, Rises}
 use Rattle.panel.specs.Choosing.{pairsFrom, pairs}
-
--- ---- what is chosen
-
--- lift numbers have room in a word's payload
-number-small : (n r : ℕ) (ls : List Lift) → Listed n ls → (i : ℕ) → getD (ofRound r ls) i nobody .number < 2 ^ 28
-unfolding ofRound Listed
-number-small n r [] d i = omega arith
-number-small n r (l ∷ ls) d i = go (eqb (l .new .round) r) i (number-small (l .number) r ls (d .1))
-  where
-    go : (t : Bool) (i : ℕ) → ((k : ℕ) → getD (ofRound r ls) k nobody .number < 2 ^ 28) → getD (cond t (l ∷ ofRound r ls) (ofRound r ls)) i nobody .number < 2 ^ 28
-    go true zero ih = d .0 .payload
-    go true (suc i) ih = ih i
-    go false i ih = ih i
-
--- an outcome is 1, 2 or 3
-outcome-between : (h : Held) (s : Selection) → (1 ≤ outcome h s) × (outcome h s ≤ 3)
-unfolding outcome
-outcome-between h s = go (isHeld h (s .place)) (s .dropped)
-  where
-    go : (x y : Bool) → (1 ≤ cond x 1 (cond y 2 3)) × (cond x 1 (cond y 2 3) ≤ 3)
-    go true y = (omega arith, omega arith)
-    go false true = (omega arith, omega arith)
-    go false false = (omega arith, omega arith)
-
--- a choice of a round that a table has, with a number and an outcome that have room in a pair
-pub record Sound (c : Choice) : Type 0 where
-  pub upto : c .round ≤ mostRounds
-  pub number : c .number < 2 ^ 28
-  pub some : 1 ≤ c .outcome
-  pub most : c .outcome ≤ 3
-
--- choices of rising rounds from r up
-abbrev pub Rises : ℕ → List Choice → Type 0
-Rises r [] = Unit {0}
-Rises r (c ∷ cs) = (r ≤ c .round) × Sound c × Rises (suc (c .round)) cs
-
--- so are those of rising rounds
-pub steps-rise : {ls : List Lift} {ws : List ℕ} {from next : ℕ} {rs : List ℕ} {cs : List Choice} → Listed 0 ls → Steps ls ws from rs cs next
-    → (a : ℕ) → Rising (λ r. r ≤ mostRounds) a rs → Rises a cs
-unfolding liftAt
-steps-rise d none a k = tt
-steps-rise {ls} d (some {r = r} {s = s} q rest) a k =
-    let o = outcome-between (heldIn r ls) s in (
-      k .0,
-      record {
-        upto = k .1;
-        number = number-small 0 r ls d (s .place);
-        some = o .0;
-        most = o .1;
-      },
-      steps-rise d rest (suc r) (k .2),
-    )
 
 -- ---- what the tables hold
 

@@ -2,21 +2,18 @@
 use Prim.Native.Nat.{ℕ, zero, suc, _+_, _-_, _^_, _≤_, _<_}
 use mathlib.Core.Path.{_≡_}
 use mathlib.Core.Bool.{cond}
-use mathlib.Core.List.{List, [], _++_}
+use mathlib.Core.List.{List, [], _∷_, _++_}
 use lib.Dec.{eqb, ltb}
 use lib.ListN.{length, getD, replicate}
 use Rattle.laws.specs.Initial.{Initial, here, elsewhere}
 use Rattle.laws.specs.Pieces.{pieces}
 use Rattle.round.specs.Rows.{rowLength}
-use Rattle.round.specs.declared.Donors.{Donors}
-use Rattle.round.specs.declared.Donors.the-variants.{None, One, Two}
 use Rattle.round.specs.declared.Selected.{Selected}
 use Rattle.round.specs.declared.Selected.the-variants.{At as AtPlace, Short}
 use Rattle.sheet.specs.Sheet.{mostRounds, Lift, sheetOf}
 use Rattle.sheet.specs.Reading.{numbered}
 use Rattle.sheet.specs.Refusal.{refusal}
 use Rattle.sheet.specs.Reply.{Reply, ofRefusal, replied, onto}
-use Rattle.rows.specs.Rows.{placeIn}
 use Rattle.sheet.specs.declared.Found.{Found}
 use Rattle.sheet.specs.declared.Found.the-variants.{At, Nothing}
 use Rattle.selection.specs.Choice.{Choice, Panel, chosen, short, byRound, pair}
@@ -29,14 +26,9 @@ use Rattle.panel.specs.declared.Answer.the-variants.{Sheet, Start, Outpu
 
 -- ---- one round
 
--- two donors with their old sums from a table; a number above the highest round's is none
-abbrev pub withTable : (first second : ℕ) → List ℕ → Donors
-withTable first second sums =
-    cond (ltb mostRounds first) None (cond (ltb mostRounds second) (One (getD sums first 0)) (Two (getD sums first 0) (getD sums second 0)))
-
--- where the held lift of a donor stands in the round whose rows begin at row a and end before row e
-abbrev pub seatIn : (donor : ℕ) → List ℕ → (a e : ℕ) → Initial
-seatIn donor seats a e = cond (ltb mostRounds donor) elsewhere (placeIn a e (getD seats donor 0))
+-- the donors that two numbers tell; one above the highest round's is none
+abbrev pub present : (first second : ℕ) → List ℕ
+present first second = cond (ltb mostRounds first) [] (cond (ltb mostRounds second) (first ∷ []) (first ∷ second ∷ []))
 
 -- a place that was looked for
 abbrev pub initialOf : Found → Initial

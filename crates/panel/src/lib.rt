@@ -13,12 +13,13 @@ ghost use Rattle.sheet.specs.Tables.{Tabled};
 ghost use Rattle.sheet.specs.Rounds.{inUse};
 ghost use Rattle.sheet.specs.Reply.{replied, unlessRefused};
 ghost use Rattle.sheet.specs.Law.{Fitting};
-ghost use Rattle.selection.specs.Choice.{panel as panelOf, unlessLacking, ofLent, pair, writtenOf, reply, output};
+ghost use Rattle.rows.specs.Rows.{placeIn};
+ghost use Rattle.selection.specs.Choice.{withSums, heldAmong, panel as panelOf, unlessLacking, ofLent, pair, writtenOf, reply, output};
 ghost use Rattle.selection.specs.Fair.{Fair};
 ghost use Rattle.carry.specs.Next.{remaining};
 ghost use Rattle.carry.specs.Reply.{ofLentNext, replyNext, outputNext, carriedTo, lentSheet};
 ghost use Rattle.carry.specs.Law.{CarriesAll};
-ghost use Rattle.panel.specs.Choosing.{withTable, initialOf, seatIn, stepOf, PairsFit, withPairs, Picked, told, toldBy, writtenBy, sheetBy, carriedBy};
+ghost use Rattle.panel.specs.Choosing.{present, initialOf, stepOf, PairsFit, withPairs, Picked, told, toldBy, writtenBy, sheetBy, carriedBy};
 use round::Donors;
 use round::Held;
 use round::Lift;
@@ -111,7 +112,7 @@ enum Step {
 
 // The donors with their old sums, from the first and the second of them.
 fn with_sums(first: u64, second: u64, sums: &[u64; Sheet::TABLE]) -> Donors
-    ensures { λ r. ⌜ r ≡ withTable first second (now (sums .entry)) ⌝ }
+    ensures { λ r. ⌜ r ≡ withSums (λ t. getD (now (sums .entry)) t 0) (present first second) ⌝ }
 {
     if first > Sheet::MOST_ROUNDS as u64 {
         return Donors::None;
@@ -122,14 +123,10 @@ fn with_sums(first: u64, second: u64, sums: &[u64; Sheet::TABLE]) -> Donors
     Donors::Two(sums[first as usize], sums[second as usize])
 }
 
-// Where the held lift of a donor stands in the round whose rows begin at row a and end before row e.
-fn held_place(donor: u64, seats: &[u64; Sheet::TABLE], a: u64, e: u64) -> Found
-    ensures { λ r. ⌜ initialOf r ≡ seatIn donor (now (seats .entry)) a e ⌝ }
+// The row at which a held lift stands, as a place of the round whose rows begin at row a and end before row e.
+fn held_place(seat: u64, a: u64, e: u64) -> Found
+    ensures { λ r. ⌜ initialOf r ≡ placeIn a e seat ⌝ }
 {
-    if donor > Sheet::MOST_ROUNDS as u64 {
-        return Found::Nothing;
-    }
-    let seat = seats[donor as usize];
     if seat < a {
         return Found::Nothing;
     }
@@ -153,6 +150,20 @@ fn held_of(a: Found, b: Found) -> Held
             Found::At(j) => Held::Both(i, j),
         },
     }
+}
+
+// The held lifts in that round, from the first and the second of its donors.
+fn held_in(first: u64, second: u64, seats: &[u64; Sheet::TABLE], a: u64, e: u64) -> Held
+    ensures { λ r. ⌜ r ≡ heldAmong (λ t. placeIn a e (getD (now (seats .entry)) t 0)) (present first second) ⌝ }
+{
+    if first > Sheet::MOST_ROUNDS as u64 {
+        return Held::Neither;
+    }
+    let one = held_place(seats[first as usize], a, e);
+    if second > Sheet::MOST_ROUNDS as u64 {
+        return held_of(one, Found::Nothing);
+    }
+    held_of(one, held_place(seats[second as usize], a, e))
 }
 
 // The number of the lift at a place of a round, 0 beyond the last.
@@ -199,17 +210,10 @@ fn select_rounds(sheet: &[u32], t: Tallies, words: &[u64], start: usize, rows: &
         let first = x.donors[2 * r];
         let second = x.donors[2 * r + 1];
         let donors = with_sums(first, second, &t.old_sums);
-        let held1 = held_place(first, &x.seats, a, e);
-        let held2 = held_place(second, &x.seats, a, e);
+        let held = held_in(first, second, &x.seats, a, e);
         let begin = Lift::ROW * a as usize;
         let end = Lift::ROW * e as usize;
-        match choose_lift(
-            &rows[begin..end],
-            donors,
-            held_of(held1, held2),
-            words,
-            next,
-        ) {
+        match choose_lift(&rows[begin..end], donors, held, words, next) {
             Step::Passed => {
                 r += 1;
             }

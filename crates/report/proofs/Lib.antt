@@ -1,5 +1,4 @@
 pub mod Decimals
-pub mod Choices
 pub mod Sizes
 pub mod Texts
 pub mod Words

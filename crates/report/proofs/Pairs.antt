@@ -13,8 +13,8 @@ use Rattle.laws.proofs.Pieces.{length-pieces, piece-element, pieces-more}
 use Rattle.sheet.specs.Sheet.{payload, placeOf}
 use Rattle.sheet.proofs.Trips.{payload-word}
 use Rattle.selection.specs.Choice.{Choice, roundWord, pairOf, written}
+use Rattle.selection.proofs.Choices.{Sound}
 use Rattle.report.specs.Report.{line, lines, pairLine, pairLines}
-use Rattle.report.proofs.Choices.{Printable}
 
 -- the lines from pair k on
 unfoldable pub linesFrom : List ℕ → ℕ → List ℕ
@@ -34,21 +34,21 @@ no-pair ws k h = rw (drop-of-length-le (pieces 2 ws) {i = k} (omega (arith, leng
 -- ---- the pairs of choices
 
 -- what a choice's pair tells
-module _ (c : Choice) (p : Printable c) where
+module _ (c : Choice) (p : Sound c) where
   first-payload : payload (roundWord (c .round) (c .outcome)) ≡ c .round * 2 ^ 21 + c .outcome
-  first-payload = payload-word 5 (c .round * 2 ^ 21 + c .outcome) (omega (arith, p .round, p .outcome))
+  first-payload = payload-word 5 (c .round * 2 ^ 21 + c .outcome) (omega (arith, p .upto, p .most))
 
   round-told : placeOf (roundWord (c .round) (c .outcome)) .round ≡ c .round
-  round-told = rw first-payload (omega (arith, p .outcome))
+  round-told = rw first-payload (omega (arith, p .most))
 
   outcome-told : placeOf (roundWord (c .round) (c .outcome)) .measure ≡ c .outcome
-  outcome-told = rw first-payload (omega (arith, p .outcome))
+  outcome-told = rw first-payload (omega (arith, p .most))
 
 -- the lines of the pairs that are written are the lines of the choices
-pub pair-lines : (cs : List Choice) (out : List ℕ) → All Printable cs → pairLines (take (2 * length cs) (written cs out)) ≡ lines cs
+pub pair-lines : (cs : List Choice) (out : List ℕ) → All Sound cs → pairLines (take (2 * length cs) (written cs out)) ≡ lines cs
 unfolding cut pairLines flatMap lines written
 pair-lines [] out e = refl
 pair-lines (c ∷ cs) out e =
     let n : 2 * suc (length cs) ≡ suc (suc (2 * length cs)) = omega arith in
-    let p : Printable c = e c (List·Memᴰ·head refl) in
+    let p : Sound c = e c (List·Memᴰ·head refl) in
     rw (n, pieces-more 2 (pairOf c) (take (2 * length cs) (written cs (drop 2 out))) (omega arith) refl, round-told c p, outcome-told c p, payload-word 6 (c .number) (p .number), pair-lines cs (drop 2 out) (λ k m. e k (List·Memᴰ·tail m)))

@@ -8,12 +8,16 @@ use lib.Dec.{eqb, ltb}
 use lib.ListN.{length, take}
 use lib.Seq.{take-take}
 use borrow.Author.Tests.{eq-eqb, ne-eqb, lt-ltb, le-ltb, eqb-true, eqb-false, ltb-false}
-use Rattle.sheet.specs.Sheet.{mostRounds, longest}
+use Rattle.sheet.specs.Sheet.{mostRounds, longest, lifts}
 use Rattle.sheet.specs.Reading.{numbered}
+use Rattle.sheet.specs.Rounds.{inUse}
 use Rattle.sheet.specs.Reply.{Reply, numbers, replied}
+use Rattle.sheet.specs.declared.Side.the-variants.{New}
 use Rattle.selection.specs.Choice.{written, reply, output}
+use Rattle.selection.proofs.Replies.{ran}
+use Rattle.selection.proofs.Steps.{steps, steps-count, steps-between}
+use Rattle.selection.proofs.Choices.{rises-sound, panel-rises, few-rounds}
 use Rattle.report.specs.Report.{mostWords, sheetWords, randomWords, lines, wordsLine, refusedLine, textOf, report, pairLines, printedWords, textRoom, Ready}
-use Rattle.report.proofs.Choices.{made}
 use Rattle.report.proofs.Sizes.{chosen-le}
 use Rattle.report.proofs.Words.{take-min, random-first}
 use Rattle.report.proofs.Pairs.{pair-lines}
@@ -67,14 +71,17 @@ module _ (sheet ws : List ℕ) {n k : ℕ} (e : reply sheet ws 0 (2 * mostRounds
       → out′ ≡ output sheet ws 0 out → Text sheet ws n k out′
   unfolding textOf output
   text-chosen out {out′} h l l′ o =
-      let m = made sheet ws 0 (2 * mostRounds) e in
+      let m = ran sheet ws 0 (2 * mostRounds) e in
+      let k = steps (lifts sheet) ws 0 (inUse New (lifts sheet)) (m .is) in
+      let s = rises-sound 1 (m .choices) (panel-rises (m .fit) k) in
+      let few : length (m .choices) ≤ mostRounds = omega (arith, steps-count k, few-rounds (lifts sheet)) in
       let w : out′ ≡ written (m .choices) out = o ∙ rw (l, e, m .is) in
       let p : pairLines (take (2 * n) out′) ≡ lines (m .choices) =
-      ap (λ i. pairLines (take (2 * i) out′)) (m .count) ∙ ap (λ l. pairLines (take (2 * length (m .choices)) l)) w ∙ pair-lines (m .choices) out (m .printable) in
+      ap (λ i. pairLines (take (2 * i) out′)) (m .count) ∙ ap (λ l. pairLines (take (2 * length (m .choices)) l)) w ∙ pair-lines (m .choices) out s in
       record {
-        inside = omega (arith, m .few);
+        inside = omega (arith, few, m .count);
         is = rw (p, e, m .is);
-        room = rw p (chosen-le (m .choices) k (m .printable) (omega (arith, m .few, m .count)) (omega (arith, m .read, m .inside)));
+        room = rw p (chosen-le (m .choices) _ s few (omega (arith, m .read, steps-between k .1 (m .started))));
       }
 
 -- what the code writes of a reply is the text

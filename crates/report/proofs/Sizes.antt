@@ -8,9 +8,9 @@ use Rattle.laws.proofs.Lists.{All}
 use Rattle.sheet.specs.Sheet.{mostRounds}
 use Rattle.sheet.specs.Reading.{numbered}
 use Rattle.selection.specs.Choice.{Choice}
+use Rattle.selection.proofs.Choices.{Sound}
 use Rattle.report.specs.Report.{mostWords, decimal, field, space, LF, line, lines, wordsLabel, wordsLine, refusedLabel, refusedLine, textRoom}
 use Rattle.report.proofs.Decimals.{field-le}
-use Rattle.report.proofs.Choices.{Printable}
 
 -- ---- by parts
 
@@ -38,21 +38,21 @@ pub refused-le : (number place : ℕ) → number < 2 ^ 64 → place < 2 ^ 64 →
 refused-le number place n p =
     omega (arith, length-refused number place, field-le 19 number space (omega arith), field-le 19 place LF (omega arith))
 
-line-le : (c : Choice) → Printable c → length (line (c .round) (c .number) (c .outcome)) ≤ 16
+line-le : (c : Choice) → Sound c → length (line (c .round) (c .number) (c .outcome)) ≤ 16
 line-le c p =
     omega (
       arith,
       length-line (c .round) (c .number) (c .outcome),
-      field-le 2 (c .round) space (omega (arith, p .round)),
+      field-le 2 (c .round) space (omega (arith, p .upto)),
       field-le 8 (c .number) space (omega (arith, p .number)),
-      field-le 0 (c .outcome) LF (omega (arith, p .outcome)),
+      field-le 0 (c .outcome) LF (omega (arith, p .most)),
     )
 
-lines-le : (cs : List Choice) → All Printable cs → length (lines cs) ≤ 16 * length cs
+lines-le : (cs : List Choice) → All Sound cs → length (lines cs) ≤ 16 * length cs
 unfolding lines
 lines-le [] e = omega arith
 lines-le (c ∷ cs) e = rw length-append (omega (arith, line-le c (e c (List·Memᴰ·head refl)), lines-le cs (λ k m. e k (List·Memᴰ·tail m))))
 
-pub chosen-le : (cs : List Choice) (k : ℕ) → All Printable cs → length cs ≤ mostRounds → k ≤ mostWords → length (lines cs ++ wordsLine k) ≤ textRoom
+pub chosen-le : (cs : List Choice) (k : ℕ) → All Sound cs → length cs ≤ mostRounds → k ≤ mostWords → length (lines cs ++ wordsLine k) ≤ textRoom
 chosen-le cs k e n h =
     rw length-append (omega (arith, lines-le cs e, length-words k, field-le 3 k LF (omega arith)))

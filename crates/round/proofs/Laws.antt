@@ -1,5 +1,5 @@
--- The laws of a round's weights and draws, put together.
-use Prim.Native.Nat.{ℕ, zero, suc, _*_, _<_}
+-- The laws of a round's weights, draws and outcomes, put together.
+use Prim.Native.Nat.{ℕ, zero, suc, _*_, _≤_, _<_}
 use mathlib.Core.Path.{sym, _∙_}
 use mathlib.Core.Bool.{Bool, true, false, cond}
 use mathlib.Core.List.{List, [], _∷_, map}
@@ -13,7 +13,7 @@ use Rattle.laws.proofs.Intervals.{pick-some}
 use Rattle.laws.proofs.Fractions.{pos-left}
 use Rattle.laws.proofs.Masses.{every-map}
 use Rattle.round.specs.Round.{liftAt, S, D, Weight, oldWeight, newWeight, weights, weightAt, Fitting}
-use Rattle.round.specs.Choice.{Preliminary, noUnit, unitAt, fresh, firstOdds, preliminary, stayOr, replacement, keyfitz, select, plan}
+use Rattle.round.specs.Choice.{Selection, Preliminary, noUnit, unitAt, fresh, firstOdds, preliminary, stayOr, replacement, keyfitz, select, plan, isHeld, outcome}
 use Rattle.round.specs.Rows.{Bounded, Stands}
 use Rattle.round.specs.Law.{Small, Weighty, LawsTheorem}
 use Rattle.round.specs.declared.Donors.{Donors}
@@ -24,6 +24,18 @@ use Rattle.round.specs.declared.Lift.{Lift}
 use Rattle.round.proofs.Weights.{old-sum, new-sum, losses, dropped-G, G-le, D-bound, weight-bound, one-positive, two-positive}
 use Rattle.round.proofs.Keyfitz.{none, arrival}
 use Rattle.round.proofs.Shares.{length-weights, every-fresh, every-plan}
+
+-- ---- outcomes
+
+-- an outcome is 1, 2 or 3
+pub outcome-between : (h : Held) (s : Selection) → (1 ≤ outcome h s) × (outcome h s ≤ 3)
+unfolding outcome
+outcome-between h s = go (isHeld h (s .place)) (s .dropped)
+  where
+    go : (x y : Bool) → (1 ≤ cond x 1 (cond y 2 3)) × (cond x 1 (cond y 2 3) ≤ 3)
+    go true y = (omega arith, omega arith)
+    go false true = (omega arith, omega arith)
+    go false false = (omega arith, omega arith)
 
 -- ---- at most three draws
 

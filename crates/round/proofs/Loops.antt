@@ -8,18 +8,19 @@ use native.Mathlib.Numerals.{add-one}
 use native.Mathlib.Omega.{arith}
 use lib.ListN.{length, getD, take, drop, set, length-set, drop-of-length-le, length-drop, length-map, List·getD-map}
 use lib.Dec.{ltb}
-use lib.Seq.{drop-cons, drop-drop, getD-drop, length-take-le, take-all, take-suc, take-suc-set}
+use lib.Seq.{slice, slice-empty, slice-cons, length-slice, drop-cons, drop-drop, getD-drop, take-all, take-suc, take-suc-set}
 use borrow.Author.Tests.{ltb-true, ltb-false}
 use mir.Val.{Fits}
 use mir.Syntax.{w64}
 use Rattle.laws.specs.Sum.{total}
 use Rattle.laws.specs.Interval.{pick}
 use Rattle.laws.specs.Pieces.{pieces}
+use Rattle.laws.proofs.Lists.{slice-lent}
 use Rattle.laws.proofs.Sums.{total-map, total-cut, map-le}
 use Rattle.laws.proofs.Intervals.{pick-here, pick-beyond, pick-within, pick-past, pick-lt}
 use Rattle.laws.proofs.Pieces.{length-pieces, piece-inside, piece-element}
 use Rattle.round.specs.Round.{liftAt, S, sent, U, Weight, weightAt, growth, G}
-use Rattle.round.specs.Rows.{lift, rowLength, liftOf, lifts, capacity, sumsOf, Small, multiplierOf, scaled, Room, LiftRoom, Balanced, blockLength, blockEnd, between}
+use Rattle.round.specs.Rows.{lift, rowLength, liftOf, lifts, capacity, sumsOf, Small, multiplierOf, scaled, Room, LiftRoom, Balanced, blockLength, blockEnd}
 use Rattle.round.specs.declared.Lift.{Lift}
 use Rattle.round.specs.declared.Scale.{Scale}
 use Rattle.round.proofs.Weights.{U-sum, dropped-G, G-le}
@@ -44,32 +45,30 @@ read-lift rows {i} h =
 
 -- ---- the lifts from place i up to place e
 
-all-between : (ls : List Lift) → between 0 (length ls) ls ≡ ls
-all-between ls = take-all (length ls - 0) ls (omega arith)
+slice-all : (ls : List Lift) → slice 0 (length ls) ls ≡ ls
+slice-all ls = take-all (length ls) ls (le-refl _)
 
-between-cons : (ls : List Lift) (i e : ℕ) → i < e → i < length ls → between i e ls ≡ liftAt ls i ∷ between (i + 1) e ls
-between-cons ls i e u h =
-    let more : e - i ≡ suc (e - suc i) = omega arith in
-    rw (more, drop-cons ls i (lift 0 0 0) h, add-one)
+slice-next : (ls : List Lift) (i e : ℕ) → i < e → e ≤ length ls → slice i e ls ≡ liftAt ls i ∷ slice (i + 1) e ls
+slice-next ls i e u h = rw add-one (slice-cons i e ls (lift 0 0 0) u h)
 
 -- a sum: what there is so far and f of the lifts from i up to e are the whole
 pub record Summed (f : Lift → ℕ) (ls : List Lift) (e whole sum i : ℕ) : Type 0 where
-  pub same : sum + total (map f (between i e ls)) ≡ whole
+  pub same : sum + total (map f (slice i e ls)) ≡ whole
 
-sum-none : {f : Lift → ℕ} {ls : List Lift} {a e whole : ℕ} → total (map f (between a e ls)) ≡ whole → Summed f ls e whole 0 a
+sum-none : {f : Lift → ℕ} {ls : List Lift} {a e whole : ℕ} → total (map f (slice a e ls)) ≡ whole → Summed f ls e whole 0 a
 sum-none t = record { same = omega arith }
 
 module _ {f : Lift → ℕ} {ls : List Lift} {e i w : ℕ} {x : Lift} (n : e ≤ length ls) (h : i < e) (r : x ≡ liftAt ls i) (t : w ≡ f x) where
   pub sum-turn : {whole sum : ℕ} → Summed f ls e whole sum i → Summed f ls e whole (sum + w) (i + 1)
   unfolding total
-  sum-turn d = record { same = omega (arith, rw r at t, rw (between-cons ls i e h (omega arith)) at (d .same)) }
+  sum-turn d = record { same = omega (arith, rw r at t, rw (slice-next ls i e h n) at (d .same)) }
 
   pub sum-fits : {whole sum : ℕ} → Summed f ls e whole sum i → whole ≤ 2 ^ 61 → Fits w64 (sum + w)
   sum-fits d r = omega (arith, sum-turn d .same)
 
 pub sum-end : {f : Lift → ℕ} {ls : List Lift} {e i whole sum : ℕ} → e ≤ i → Summed f ls e whole sum i → sum ≡ whole
 unfolding total
-sum-end {e} {i} h d = let none : e - i ≡ 0 = omega arith in omega (arith, rw none at (d .same))
+sum-end {ls} {e} {i} h d = let none : e - i ≡ 0 = omega arith in omega (arith, rw (← slice-lent i e ls, none) at (d .same))
 
 -- ---- the sums of the round, in one walk
 
@@ -81,10 +80,10 @@ pub record Walked (k : ℕ) (ls : List Lift) (new first last i : ℕ) : Type 0 w
 
 pub walk-none : (k : ℕ) (ls : List Lift) → Walked k ls 0 0 0 0
 unfolding S
-walk-none k ls = record { news = sum-none (rw (all-between ls)); firsts = came 1; lasts = came k }
+walk-none k ls = record { news = sum-none (rw (slice-all ls)); firsts = came 1; lasts = came k }
   where
     came : (d : ℕ) → Summed (sent d) ls (length ls) (U d ls) 0 0
-    came d = sum-none (rw (all-between ls, U-sum))
+    came d = sum-none (rw (slice-all ls, U-sum))
 
 module _ {k : ℕ} {ls : List Lift} {n new first last i : ℕ} {x : Lift} (c : n ≡ length ls) (h : i < n) (r : x ≡ liftAt ls i) (d : Walked k ls new first last i) where
   -- by one lift
@@ -119,10 +118,10 @@ pub record Gathered (ls block : List Lift) (a e i : ℕ) : Type 0 where
   pub from : a ≤ i
   pub upto : i ≤ e
   pub long : length block ≡ blockLength
-  pub same : take (i - a) block ≡ between a i ls
+  pub same : take (i - a) block ≡ slice a i ls
 
 pub gather-none : {ls block : List Lift} {a e : ℕ} → a ≤ e → length block ≡ blockLength → Gathered ls block a e a
-gather-none {a} h n = record { from = le-refl a; upto = h; long = n; same = rw (sub-self a) }
+gather-none {ls} {a} h n = record { from = le-refl a; upto = h; long = n; same = rw (sub-self a, slice-empty a ls) }
 
 pub gather-turn : {ls block : List Lift} {x : Lift} {a e i : ℕ} → e ≤ length ls → e - a ≤ blockLength → i < e → x ≡ liftAt ls i
     → Gathered ls block a e i → Gathered ls (set block (i - a) x) a e (i + 1)
@@ -133,10 +132,10 @@ gather-turn {ls} {block} {x} {a} {i} n k h r g =
       from = omega (arith, g .from);
       upto = omega arith;
       long = rw length-set (g .long);
-      same = rw (next, take-suc-set block (i - a) x (omega (arith, g .long, g .from)), take-suc (drop a ls) (i - a) (lift 0 0 0) inside, getD-drop, here, r, g .same);
+      same = rw (← slice-lent a (i + 1) ls, next, take-suc-set block (i - a) x (omega (arith, g .long, g .from)), take-suc (drop a ls) (i - a) (lift 0 0 0) inside, getD-drop, here, r, slice-lent a i ls, g .same);
     }
 
-pub gather-end : {ls block : List Lift} {a e i : ℕ} → e ≤ i → Gathered ls block a e i → take (e - a) block ≡ between a e ls
+pub gather-end : {ls block : List Lift} {a e i : ℕ} → e ≤ i → Gathered ls block a e i → take (e - a) block ≡ slice a e ls
 gather-end {e} {i} h g = let all : i ≡ e = omega (arith, g .upto) in rw all at (g .same)
 
 -- ---- the search for the place in whose interval a position falls
@@ -172,12 +171,12 @@ grows s l = growth (scaled s l)
 grows-map : (s : Scale) (ls : List Lift) → map (grows s) ls ≡ map growth (map (scaled s) ls)
 grows-map s ls = sym (map-map growth (scaled s) ls)
 
-pub reach-none : (s : Scale) (a e : ℕ) (ls : List Lift) → Summed (grows s) ls e (G (map (scaled s) (between a e ls))) 0 a
+pub reach-none : (s : Scale) (a e : ℕ) (ls : List Lift) → Summed (grows s) ls e (G (map (scaled s) (slice a e ls))) 0 a
 unfolding G
-reach-none s a e ls = sum-none (ap total (grows-map s (between a e ls)))
+reach-none s a e ls = sum-none (ap total (grows-map s (slice a e ls)))
 
-pub reach-all : (s : Scale) (ls : List Lift) {n sum : ℕ} → n ≡ length ls → sum ≡ G (map (scaled s) (between 0 n ls)) → sum ≡ G (map (scaled s) ls)
-reach-all s ls c e = rw (c, all-between ls) at e
+pub reach-all : (s : Scale) (ls : List Lift) {n sum : ℕ} → n ≡ length ls → sum ≡ G (map (scaled s) (slice 0 n ls)) → sum ≡ G (map (scaled s) ls)
+reach-all s ls c e = rw (c, slice-all ls) at e
 
 pub pick-none : (s : Scale) (ls : List Lift) (q : ℕ) → Sought (grows s) ls (pick (map growth (map (scaled s) ls)) q) q 0
 pick-none s ls q = seek-none (ap (λ ns. pick ns q) (grows-map s ls))
@@ -211,10 +210,10 @@ module _ {n i e : ℕ} (b : e ≡ blockEnd i n) (h : i < n) where
   pub block-short : e - i ≤ blockLength
   block-short = ends .1 .1
 
-module _ (s : Scale) (ls : List Lift) {n i e w : ℕ} (c : n ≡ length ls) (h : i < n) (b : e ≡ blockEnd i n) (t : w ≡ G (map (scaled s) (between i e ls))) where
-  sums : w ≡ total (map (grows s) (between i e ls))
+module _ (s : Scale) (ls : List Lift) {n i e w : ℕ} (c : n ≡ length ls) (h : i < n) (b : e ≡ blockEnd i n) (t : w ≡ G (map (scaled s) (slice i e ls))) where
+  sums : w ≡ total (map (grows s) (take (e - i) (drop i ls)))
   unfolding G
-  sums = t ∙ ap total (sym (grows-map s (between i e ls)))
+  sums = t ∙ rw (← slice-lent i e ls) (ap total (sym (grows-map s (take (e - i) (drop i ls)))))
 
   block-long : e - i ≤ length (drop i ls)
   block-long = omega (arith, length-drop i ls, block-inside b h c)
@@ -226,26 +225,26 @@ module _ (s : Scale) (ls : List Lift) {n i e w : ℕ} (c : n ≡ length ls) (h :
       record { same = omega (arith, to, rw (pick-past (grows s) (e - i) (drop i ls) left block-long (rw sums at k), ← sums, drop-drop (e - i) i ls, to) at (d .same)) }
 
   -- it falls in the block
-  pub block-fits : {left p : ℕ} {us : List Lift} → left < w → us ≡ between i e ls → p ≡ pick (map growth (map (scaled s) us)) left → n < 2 ^ 64 → Fits w64 (i + p)
+  pub block-fits : {left p : ℕ} {us : List Lift} → left < w → us ≡ slice i e ls → p ≡ pick (map growth (map (scaled s) us)) left → n < 2 ^ 64 → Fits w64 (i + p)
   unfolding G
   block-fits {left} {p} {us} k r x m =
       let inside = rw (← x, length-map, length-map) at (pick-lt (map growth (map (scaled s) us)) left (rw (r, ← t) k)) in
-      omega (arith, inside, ap length r, length-take-le (e - i) (drop i ls) block-long, block-rises b h, block-inside b h c)
+      omega (arith, inside, ap length r, length-slice i e ls (block-inside b h c), block-rises b h, block-inside b h c)
 
-  pub block-here : {place left p : ℕ} {us : List Lift} → left < w → us ≡ between i e ls → p ≡ pick (map growth (map (scaled s) us)) left
+  pub block-here : {place left p : ℕ} {us : List Lift} → left < w → us ≡ slice i e ls → p ≡ pick (map growth (map (scaled s) us)) left
       → Sought (grows s) ls place left i → i + p ≡ place
-  block-here {left} k r x d = rw (x, r, ← grows-map s (between i e ls), ← pick-within (grows s) (e - i) (drop i ls) left (rw sums at k)) (d .same)
+  block-here {left} k r x d = rw (x, r, ← slice-lent i e ls, ← grows-map s (take (e - i) (drop i ls)), ← pick-within (grows s) (e - i) (drop i ls) left (rw sums at k)) (d .same)
 
 -- ---- room
 
 -- a block has room if the whole has
-between-le : (f : Lift → ℕ) (a e : ℕ) (ls : List Lift) → total (map f (between a e ls)) ≤ total (map f ls)
-between-le f a e ls = omega (arith, total-cut f a ls, total-cut f (e - a) (drop a ls))
+slice-le : (f : Lift → ℕ) (a e : ℕ) (ls : List Lift) → total (map f (slice a e ls)) ≤ total (map f ls)
+slice-le f a e ls = omega (arith, total-cut f e ls, total-cut f a (take e ls))
 
-pub block-room : {s : Scale} {ls us : List Lift} (a e : ℕ) → us ≡ between a e ls → Room s ls → Room s us
+pub block-room : {s : Scale} {ls us : List Lift} (a e : ℕ) → us ≡ slice a e ls → Room s ls → Room s us
 block-room {s} {ls} a e u r = rw u (record {
-  olds = omega (arith, between-le (λ l. scaled s l .old) a e ls, r .olds);
-  news = omega (arith, between-le (λ l. scaled s l .new) a e ls, r .news);
+  olds = omega (arith, slice-le (λ l. scaled s l .old) a e ls, r .olds);
+  news = omega (arith, slice-le (λ l. scaled s l .new) a e ls, r .news);
 })
 
 -- and so has each lift
@@ -255,9 +254,9 @@ lift-room {s} {ls} {i} r h = record {
   new = omega (arith, map-le (λ l. scaled s l .new) (lift 0 0 0) ls i h, r .news);
 }
 
-pub G-room : {s : Scale} {ls : List Lift} (a e : ℕ) → Room s ls → G (map (scaled s) (between a e ls)) ≤ 2 ^ 61
+pub G-room : {s : Scale} {ls : List Lift} (a e : ℕ) → Room s ls → G (map (scaled s) (slice a e ls)) ≤ 2 ^ 61
 G-room {s} {ls} a e r =
-    let us = between a e ls in
+    let us = slice a e ls in
     omega (arith, G-le (map (scaled s) us), total-map (scaled s) (λ w. w .new) us, block-room a e refl r .news)
 
 pub read-room : {s : Scale} {ls : List Lift} {x : Lift} {i e : ℕ} → e ≤ length ls → i < e → x ≡ liftAt ls i → Room s ls → LiftRoom s x

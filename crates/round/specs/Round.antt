@@ -1,11 +1,9 @@
 -- "One round" of document 01: the lifts of a new round, its sums, and the weights and growths of its lifts. A lift is the code's
 -- `Lift`: old measure, donor and new measure.
 use Prim.Native.Nat.{ℕ, _+_, _-_, _*_, _≤_, _<_}
-use mathlib.Core.Bool.{cond}
 use mathlib.Core.List.{List, map}
 use lib.ListN.{getD}
-use lib.Dec.{eqb}
-use Rattle.laws.specs.Sum.{total, totalBy}
+use Rattle.laws.specs.Sum.{total, valueBy, totalBy}
 use Rattle.round.specs.declared.Donors.{Donors}
 use Rattle.round.specs.declared.Donors.the-variants.{None, One, Two}
 use Rattle.round.specs.declared.Lift.{Lift}
@@ -24,7 +22,7 @@ U k ls = totalBy (λ l. l .donor) (λ l. l .old) k ls
 
 -- the old measure that a lift brings from donor k
 abbrev pub sent : ℕ → Lift → ℕ
-sent k l = cond (eqb (l .donor) k) (l .old) 0
+sent k l = valueBy (λ l. l .donor) (λ l. l .old) k l
 
 -- "One donor: D = U." "Two donors: D = U1 × T2 + U2 × T1." Without a donor there is none.
 unfoldable pub D : Donors → List Lift → ℕ

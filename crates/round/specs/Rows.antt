@@ -3,7 +3,7 @@ use Prim.Native.Nat.{ℕ, _+_, _-_, _*_, _^_, _≤_, _<_}
 use mathlib.Core.Path.{_≡_}
 use mathlib.Core.Bool.{Bool, cond}
 use mathlib.Core.List.{List, map}
-use lib.ListN.{length, getD, take, drop}
+use lib.ListN.{length, getD}
 use lib.Dec.{ltb, eqb}
 use Rattle.laws.specs.Sum.{total}
 use Rattle.laws.specs.Interval.{pick}
@@ -119,10 +119,6 @@ blockLength = 16
 -- where the block that begins at place a ends, in a round of n lifts
 abbrev pub blockEnd : ℕ → ℕ → ℕ
 blockEnd a n = cond (ltb (n - a) blockLength) n (a + blockLength)
-
--- the lifts from place a up to place e
-abbrev pub between : ℕ → ℕ → List Lift → List Lift
-between a e ls = take (e - a) (drop a ls)
 
 -- a draw below the sum of the growths takes the lift in whose interval it falls: a replacement, or fresh where the growths are
 -- the new measures

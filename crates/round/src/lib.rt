@@ -4,12 +4,13 @@ ghost use mathlib.Core.Path.{_≡_};
 ghost use mathlib.Core.List.{map};
 ghost use Prim.Native.Nat.{_-_, _≤_, _<_};
 ghost use lib.ListN.{length, take};
+ghost use lib.Seq.{slice};
 ghost use Rattle.laws.specs.Interval.{pick as pickOf};
 ghost use Rattle.draw.specs.Draw.{largest};
 ghost use Rattle.draw.specs.Run.{run};
 ghost use Rattle.round.specs.Round.{liftAt, sent as sentOf, growth, G, Fitting};
 ghost use Rattle.round.specs.Choice.{keyfitz, isHeld, outcome as outcomeOf, selection, answer, selected};
-ghost use Rattle.round.specs.Rows.{lifts, Bounded, Callable, sumsOf, Small, multiplierOf, scaled, scaleOf, Room, LiftRoom, Balanced, blockLength, blockEnd, between, drawGrowth};
+ghost use Rattle.round.specs.Rows.{lifts, Bounded, Callable, sumsOf, Small, multiplierOf, scaled, scaleOf, Room, LiftRoom, Balanced, blockLength, blockEnd, drawGrowth};
 use draw::Drawn;
 
 // The donors of a round, with their whole old sums T.
@@ -122,7 +123,7 @@ fn lift_at(rows: &[u32], i: usize) -> Lift
 fn reach_between(s: Scale, rows: &[u32], a: usize, e: usize) -> u64
     requires { ⌜ Room s (lifts (now rows)) ⌝ }
     requires { ⌜ e ≤ length (lifts (now rows)) ⌝ }
-    ensures { λ r. ⌜ r ≡ G (map (scaled s) (between a e (lifts (now (rows .entry))))) ⌝ }
+    ensures { λ r. ⌜ r ≡ G (map (scaled s) (slice a e (lifts (now (rows .entry))))) ⌝ }
 {
     let mut sum: u64 = 0;
     let mut i = a;
@@ -182,7 +183,7 @@ fn block_end(a: usize, n: usize) -> usize
 fn gathered(rows: &[u32], a: usize, e: usize) -> [Lift; BLOCK]
     requires { ⌜ (a ≤ e) × (e ≤ length (lifts (now rows))) ⌝ }
     requires { ⌜ e - a ≤ blockLength ⌝ }
-    ensures { λ r. ⌜ take (e - a) r ≡ between a e (lifts (now (rows .entry))) ⌝ }
+    ensures { λ r. ⌜ take (e - a) r ≡ slice a e (lifts (now (rows .entry))) ⌝ }
 {
     let none = Lift {
         old: 0,

@@ -1,4 +1,4 @@
 pub mod SettingBits
+pub mod Pairing
 pub mod Placing
 pub mod Seating
-pub mod Layouts

@@ -25,7 +25,7 @@ use Rattle.sheet.specs.Sheet.{mostRounds, Lift}
 use Rattle.sheet.specs.Law.{Fit}
 use Rattle.sheet.specs.declared.Side.the-variants.{Old, New}
 use Rattle.sheet.specs.Rounds.{placeAt, named, sumOf, donors, ofRound, donorNumber, further, heldAt}
-use Rattle.selection.specs.Choice.{withSums, donorsOf, liftsOf, heldAmong, heldIn, planOf, nobody, liftAt}
+use Rattle.selection.specs.Choice.{withSums, donorsOf, inRound, liftsOf, heldAmong, heldIn, planOf, nobody, liftAt}
 use Rattle.selection.proofs.Held.{proper}
 use Rattle.selection.proofs.Flags.{ofRound-all}
 use Rattle.selection.proofs.RoundsFit.{Senders, none, one, two, senders, number-first, number-second, round-fits}
@@ -64,7 +64,7 @@ module _ {ls : List Lift} (f : Fit ls) (r : ℕ) where
 
   -- the round, its lifts numbered by some donors
   abbrev rows : List ℕ → List RoundLift
-  rows ds = map (λ l. lift (l .old .measure) (donorNumber ds (l .old .round)) (placeAt New l .measure)) us
+  rows ds = map (inRound (donorNumber ds)) us
 
   -- a held lift has an old measure above 0
   some-measure : (i : ℕ) → getD us i nobody .held ≡ true → 0 < getD us i nobody .old .measure
@@ -80,38 +80,38 @@ module _ {ls : List Lift} (f : Fit ls) (r : ℕ) where
       let s = stood t us i e in
       rw (weights-at _ _ us i (s .held), s .from) (h _ _ (some-measure i (s .held)))
 
-  weigh : (ds : List ℕ) → Senders r ls ds → 0 < S (rows ds) → Donate (withSums ds ls) (rows ds) → Weighty (withSums ds ls) (rows ds) (heldAmong ds us)
+  weigh : (ds : List ℕ) → Senders r ls ds → 0 < S (rows ds) → Donate (withSums (λ t. sumOf Old t ls) ds) (rows ds) → Weighty (withSums (λ t. sumOf Old t ls) ds) (rows ds) (heldAmong (λ t. heldAt t us) ds)
   unfolding oldWeight
   weigh [] none p d = tt
   weigh (t ∷ []) (one s l h) p d = go (heldAt t us) refl
     where
-      first : (m b : ℕ) → 0 < m → 0 < oldWeight (withSums (t ∷ []) ls) (rows (t ∷ [])) (lift m (donorNumber (t ∷ []) t) b)
+      first : (m b : ℕ) → 0 < m → 0 < oldWeight (withSums (λ t. sumOf Old t ls) (t ∷ [])) (rows (t ∷ [])) (lift m (donorNumber (t ∷ []) t) b)
       first m b q = rw (eq-eqb t t refl) (mul-pos q p)
 
-      go : (x : Initial) → heldAt t us ≡ x → Weighty (withSums (t ∷ []) ls) (rows (t ∷ [])) (heldOf x elsewhere)
-      go (here i) e = weight-some (t ∷ []) (withSums (t ∷ []) ls) t i e first
+      go : (x : Initial) → heldAt t us ≡ x → Weighty (withSums (λ t. sumOf Old t ls) (t ∷ [])) (rows (t ∷ [])) (heldOf x elsewhere)
+      go (here i) e = weight-some (t ∷ []) (withSums (λ t. sumOf Old t ls) (t ∷ [])) t i e first
       go elsewhere e = tt
   weigh (t ∷ v ∷ []) (two s k l m h) p d = go (heldAt t us) refl (heldAt v us) refl
     where
       ds : List ℕ
       ds = t ∷ v ∷ []
 
-      first : (m b : ℕ) → 0 < m → 0 < oldWeight (withSums ds ls) (rows ds) (lift m (donorNumber ds t) b)
+      first : (m b : ℕ) → 0 < m → 0 < oldWeight (withSums (λ t. sumOf Old t ls) ds) (rows ds) (lift m (donorNumber ds t) b)
       first m b q =
           let u : 0 < sumOf Old v ls = omega (arith, d .1 .some, d .1 .part) in
           let x : 0 < m * sumOf Old v ls = mul-pos q u in
           rw (number-first t (v ∷ []) t, eq-eqb t t refl) (mul-pos (omega arith) p)
 
-      second : (n b : ℕ) → 0 < n → 0 < oldWeight (withSums ds ls) (rows ds) (lift n (donorNumber ds v) b)
+      second : (n b : ℕ) → 0 < n → 0 < oldWeight (withSums (λ t. sumOf Old t ls) ds) (rows ds) (lift n (donorNumber ds v) b)
       second n b q =
           let u : 0 < sumOf Old t ls = omega (arith, d .0 .some, d .0 .part) in
           let x : 0 < n * sumOf Old t ls = mul-pos q u in
           rw (number-second t v [] m v, eq-eqb v v refl) (mul-pos (omega arith) p)
 
-      go : (x : Initial) → heldAt t us ≡ x → (y : Initial) → heldAt v us ≡ y → Weighty (withSums ds ls) (rows ds) (heldOf x y)
-      go (here i) a (here j) b = (weight-some ds (withSums ds ls) t i a first, weight-some ds (withSums ds ls) v j b second)
-      go (here i) a elsewhere b = weight-some ds (withSums ds ls) t i a first
-      go elsewhere a (here j) b = weight-some ds (withSums ds ls) v j b second
+      go : (x : Initial) → heldAt t us ≡ x → (y : Initial) → heldAt v us ≡ y → Weighty (withSums (λ t. sumOf Old t ls) ds) (rows ds) (heldOf x y)
+      go (here i) a (here j) b = (weight-some ds (withSums (λ t. sumOf Old t ls) ds) t i a first, weight-some ds (withSums (λ t. sumOf Old t ls) ds) v j b second)
+      go (here i) a elsewhere b = weight-some ds (withSums (λ t. sumOf Old t ls) ds) t i a first
+      go elsewhere a (here j) b = weight-some ds (withSums (λ t. sumOf Old t ls) ds) v j b second
       go elsewhere a elsewhere b = tt
 
 -- ---- the lift chosen

@@ -13,7 +13,6 @@ use Rattle.round.specs.Round.{liftAt as roundLiftAt, U, D, weights}
 use Rattle.round.specs.Choice.{plan, isHeld}
 use Rattle.round.specs.Share.{chooses, share as roundShare}
 use Rattle.round.specs.Keep.{kept as roundKept, Best}
-use Rattle.round.specs.Rows.{lift}
 use Rattle.round.specs.declared.Held.{Held}
 use Rattle.round.specs.declared.Donors.the-variants.{One}
 use Rattle.round.proofs.Shares.{shares as round-shares}
@@ -23,7 +22,7 @@ use Rattle.sheet.specs.Law.{Fit}
 use Rattle.sheet.specs.declared.Side.the-variants.{Old, New}
 use Rattle.sheet.proofs.Those.{those-in}
 use Rattle.sheet.specs.Rounds.{placeAt, named, inUse, sumOf, donors, ofRound, donorNumber}
-use Rattle.selection.specs.Choice.{donorsOf, liftsOf, heldIn, planOf, nobody, liftAt}
+use Rattle.selection.specs.Choice.{donorsOf, inRound, liftsOf, heldIn, planOf, nobody, liftAt}
 use Rattle.selection.specs.Initial.{marked}
 use Rattle.selection.specs.Fair.{share, kept, FairTheorem}
 use Rattle.selection.proofs.Marks.{inUse-marked, donorsOf-marked, liftsOf-marked}
@@ -40,7 +39,7 @@ plan-marked m r ls = rw (donorsOf-marked m r ls, liftsOf-marked m r ls)
 
 length-lifts : (r : ℕ) (ls : List Lift) → length (liftsOf r ls) ≡ length (ofRound r ls)
 unfolding liftsOf
-length-lifts r ls = length-map (ofRound r ls) (λ l. lift (l .old .measure) (donorNumber (donors r ls) (l .old .round)) (placeAt New l .measure))
+length-lifts r ls = length-map (ofRound r ls) (inRound (donorNumber (donors r ls)))
 
 -- the lift at a place has the same new measure for the round
 new-at : (r : ℕ) (ls : List Lift) (j : ℕ) → roundLiftAt (liftsOf r ls) j .new ≡ placeAt New (liftAt r ls j) .measure
@@ -48,7 +47,7 @@ unfolding liftsOf liftAt
 new-at r ls j = go (ofRound r ls) j
   where
     go : (us : List Lift) (j : ℕ)
-        → roundLiftAt (map (λ l. lift (l .old .measure) (donorNumber (donors r ls) (l .old .round)) (placeAt New l .measure)) us) j .new ≡ placeAt New (getD us j nobody) .measure
+        → roundLiftAt (map (inRound (donorNumber (donors r ls))) us) j .new ≡ placeAt New (getD us j nobody) .measure
     go [] j = refl
     go (u ∷ us) zero = refl
     go (u ∷ us) (suc j) = go us j

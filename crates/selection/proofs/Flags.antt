@@ -1,5 +1,5 @@
 -- Where lifts fit, the marks of a round are the held lifts that its choice starts from.
-use Prim.Native.Nat.{ℕ, zero, suc, _+_, _≤_}
+use Prim.Native.Nat.{ℕ, zero, suc, _≤_}
 use mathlib.Core.Path.{_≡_, refl, sym, ap, ap₂, _∙_}
 use mathlib.Core.Bool.{Bool, true, false, cond, _&&_, _||_, or-false, or-true, and-false, and-or-distrib-left, false≢true}
 use mathlib.Core.List.{List, [], _∷_, List·Memᴰ, List·Memᴰ·head, List·Memᴰ·tail, List·Memᴰ·not-nil, List·Memᴰ·cases-cons, List·Memᴰ·eq-of-singleton}
@@ -19,6 +19,7 @@ use Rattle.sheet.specs.Law.{Listed, Fit}
 use Rattle.sheet.proofs.Those.{those-has}
 use Rattle.sheet.specs.Rounds.{comes, sends, donors, ofRound, heldIn as heldCount, further, heldAt}
 use Rattle.selection.specs.Choice.{heldAmong, heldIn, nobody, liftAt}
+use Rattle.selection.proofs.Sums.{ofRound-le}
 use Rattle.selection.proofs.Held.{proper, somewhere, held-one}
 
 -- ---- the marks of a round
@@ -87,7 +88,7 @@ both false c h = refl
 
 -- the marks of lifts of at most two old rounds, at most one in each
 among : (ls : List Lift) → ((t : ℕ) → heldCount t ls ≤ 1) → (i : ℕ) (ds : List ℕ) → leb 3 (length ds) ≡ false
-    → (getD ls i nobody .held ≡ true → List·Memᴰ (getD ls i nobody .old .round) ds) → getD ls i nobody .held ≡ isHeld (heldAmong ds ls) i
+    → (getD ls i nobody .held ≡ true → List·Memᴰ (getD ls i nobody .old .round) ds) → getD ls i nobody .held ≡ isHeld (heldAmong (λ t. heldAt t ls) ds) i
 among ls h i [] few m = both (getD ls i nobody .held) false (λ e. absurd (List·Memᴰ·not-nil (m e))) ∙ and-false (getD ls i nobody .held)
 among ls h i (d ∷ []) few m =
     both (getD ls i nobody .held) _ (λ e. eq-eqb _ d (List·Memᴰ·eq-of-singleton (m e)))
@@ -108,16 +109,6 @@ ofRound-all P r [] h = all-none P
 ofRound-all P r (l ∷ ls) h =
     all-keep P (eqb (l .new .round) r) (λ e. h l (List·Memᴰ·head refl) (eqb-true (l .new .round) r e)) (ofRound-all P r ls (λ k m. h k (List·Memᴰ·tail m)))
 
--- no more lifts are held in a new round than in all
-ofRound-held : (r t : ℕ) (ls : List Lift) → heldCount t (ofRound r ls) ≤ heldCount t ls
-unfolding ofRound totalBy
-ofRound-held r t [] = omega arith
-ofRound-held r t (l ∷ ls) = go (eqb (l .new .round) r) (ofRound-held r t ls)
-  where
-    go : (x : Bool) → heldCount t (ofRound r ls) ≤ heldCount t ls → heldCount t (cond x (l ∷ ofRound r ls) (ofRound r ls)) ≤ cond (eqb (l .old .round) t) (indicator (l .held)) 0 + heldCount t ls
-    go true h = omega arith
-    go false h = omega arith
-
 -- a lift of old measure above 0 makes its old round a donor
 pub sends-has : (t r : ℕ) {l : Lift} {ls : List Lift} → List·Memᴰ l ls → comes t r l ≡ true → sends t r ls ≡ true
 unfolding sends
@@ -128,7 +119,7 @@ sends-has t r (List·Memᴰ·tail {x = x} m) c = rw (sends-has t r m c) (or-true
 pub flagged : (ls : List Lift) → Fit ls → (r : ℕ) → 1 ≤ r → r ≤ mostRounds → (i : ℕ) → liftAt r ls i .held ≡ isHeld (heldIn r ls) i
 unfolding liftAt heldIn
 flagged ls f r a b i =
-    among (ofRound r ls) (λ t. le-trans (ofRound-held r t ls) (held-one ls d (f .rounds .held) t)) i (donors r ls) (f .rounds .donors r a b)
+    among (ofRound r ls) (λ t. le-trans (ofRound-le (λ l. l .old .round) (λ l. indicator (l .held)) t r ls) (held-one ls d (f .rounds .held) t)) i (donors r ls) (f .rounds .donors r a b)
     (all-getD Donor (λ e. absurd (false≢true e)) (ofRound r ls) (ofRound-all Donor r ls donor) i)
   where
     d : Listed 0 ls

@@ -1,3 +1,4 @@
+pub mod Sums
 pub mod Marks
 pub mod Means
 pub mod Standing
@@ -10,6 +11,7 @@ pub mod RoundsFit
 pub mod Weighing
 pub mod Replies
 pub mod Steps
+pub mod Choices
 pub mod Following
 pub mod Chosen
 pub mod Fair

@@ -6,13 +6,12 @@ use mathlib.Core.List.{List, [], _∷_, map-map}
 use lib.Dec.{eqb, ltb}
 use lib.ListN.{length, length-map}
 use Rattle.laws.specs.Sum.{totalBy}
-use Rattle.round.specs.Rows.{lift}
 use Rattle.sheet.specs.Sheet.{mostRounds, Lift}
 use Rattle.sheet.specs.declared.Side.{Side}
 use Rattle.sheet.specs.declared.Side.the-variants.{Old, New}
 use Rattle.sheet.proofs.Those.{those-ext}
 use Rattle.sheet.specs.Rounds.{placeAt, named, inUse, sumOf, comes, sends, donors, ofRound, donorNumber}
-use Rattle.selection.specs.Choice.{withSums, donorsOf, liftsOf}
+use Rattle.selection.specs.Choice.{withSums, donorsOf, inRound, liftsOf}
 use Rattle.selection.specs.Initial.{holding, marked}
 
 module _ (m : List Lift) where
@@ -64,13 +63,13 @@ module _ (m : List Lift) where
   unfolding liftsOf marked
   liftsOf-marked r ls =
       rw (donors-marked r ls, ofRound-marked r ls)
-      (map-map (λ l. lift (l .old .measure) (donorNumber (donors r ls) (l .old .round)) (placeAt New l .measure)) (holding m) (ofRound r ls))
+      (map-map (inRound (donorNumber (donors r ls))) (holding m) (ofRound r ls))
 
   pub donorsOf-marked : (r : ℕ) (ls : List Lift) → donorsOf r (marked m ls) ≡ donorsOf r ls
   unfolding donorsOf
   donorsOf-marked r ls = rw (donors-marked r ls) (same (donors r ls))
     where
-      same : (ds : List ℕ) → withSums ds (marked m ls) ≡ withSums ds ls
+      same : (ds : List ℕ) → withSums (λ t. sumOf Old t (marked m ls)) ds ≡ withSums (λ t. sumOf Old t ls) ds
       same [] = refl
       same (d ∷ []) = rw (sumOf-marked Old d ls)
       same (d ∷ e ∷ ds) = rw (sumOf-marked Old d ls, sumOf-marked Old e ls)

@@ -9,7 +9,7 @@ use native.Mathlib.Omega.{arith}
 use lib.Dec.{eqb, ltb}
 use lib.ListN.{length, getD}
 use borrow.Author.Tests.{eqb-true, ltb-false}
-use Rattle.laws.specs.Sum.{over}
+use Rattle.laws.specs.Sum.{over, valueBy}
 use Rattle.laws.specs.Fraction.{Fraction, _//_, _⊕_, _⊗_, _≈_, sum}
 use Rattle.laws.proofs.Sums.{Σ-map, totalBy-map}
 use Rattle.laws.proofs.Fractions.{pos-left, pos-right, ≈-refl, ≈-trans, ≈-num, ⊕-assoc, ⊕-zero, ⊕-≈, ⊗-assoc, ⊗-≈, ⊗-distrib, sum-≈, sum-same, sum-right}
@@ -25,7 +25,7 @@ nth ls i = getD ls i nobody
 
 -- the old measure of a lift of old round t, 0 of another
 abbrev pub brought : ℕ → Lift → ℕ
-brought t l = cond (eqb (l .old .round) t) (l .old .measure) 0
+brought t l = valueBy (λ l. l .old .round) (λ l. l .old .measure) t l
 
 -- the mean of f over the lifts of old round t, each by its old measure over T
 unfoldable pub mean : ℕ → ℕ → List Lift → (Lift → Fraction) → Fraction

@@ -11,7 +11,8 @@ use Rattle.sheet.specs.Sheet.{lifts}
 use Rattle.sheet.specs.Reading.{numbered}
 use Rattle.sheet.specs.Refusal.{Verdict, refused, fits, verdict}
 use Rattle.sheet.specs.Reply.{ofRefusal, replied}
-use Rattle.sheet.proofs.Verdicts.{decided}
+use Rattle.sheet.specs.Law.{Fit}
+use Rattle.sheet.proofs.Verdicts.{decided, fit}
 use Rattle.selection.specs.Choice.{Choice, Panel, chosen, short, panel, ofPanel, ofLent, ofVerdict, reply}
 
 -- the choices of a run, their number, and the words that were read
@@ -22,26 +23,27 @@ pub record Ran (sheet ws : List ℕ) (start n k : ℕ) : Type 0 where
   pub count : n ≡ length choices
   pub read : k ≡ next - start
   pub started : start ≤ length ws
+  pub fit : Fit (lifts sheet)
 
 pub ran : (sheet ws : List ℕ) (start room : ℕ) {n k : ℕ} → reply sheet ws start room ≡ replied n k → Ran sheet ws start n k
 unfolding reply
 ran sheet ws start room {n} {k} e = judged (verdict sheet) refl e
   where
-    told : (p : Panel) → panel (lifts sheet) ws start ≡ p → start ≤ length ws → ofPanel start p ≡ replied n k → Ran sheet ws start n k
-    told (chosen cs next) h l q =
-        record { choices = cs; next = next; is = h; count = sym (ap (λ r. r .second) q); read = sym (ap (λ r. r .third) q); started = l }
-    told (short r) h l q = absurd (omega (arith, ap (λ r. r .number) q))
+    told : Fit (lifts sheet) → (p : Panel) → panel (lifts sheet) ws start ≡ p → start ≤ length ws → ofPanel start p ≡ replied n k → Ran sheet ws start n k
+    told f (chosen cs next) h l q =
+        record { choices = cs; next = next; is = h; count = sym (ap (λ r. r .second) q); read = sym (ap (λ r. r .third) q); started = l; fit = f }
+    told f (short r) h l q = absurd (omega (arith, ap (λ r. r .number) q))
 
-    lent : (rounds : ℕ) → ofLent (lifts sheet) rounds ws start room ≡ replied n k → Ran sheet ws start n k
-    lent rounds q = go (ltb (length ws) start) refl (ltb room (2 * rounds)) q
+    lent : Fit (lifts sheet) → (rounds : ℕ) → ofLent (lifts sheet) rounds ws start room ≡ replied n k → Ran sheet ws start n k
+    lent f rounds q = go (ltb (length ws) start) refl (ltb room (2 * rounds)) q
       where
         go : (t : Bool) → ltb (length ws) start ≡ t → (u : Bool)
             → cond t (ofRefusal (numbered 11 start)) (cond u (ofRefusal (numbered 12 (2 * rounds))) (ofPanel start (panel (lifts sheet) ws start))) ≡ replied n k
             → Ran sheet ws start n k
         go true h u q = absurd (omega (arith, ap (λ r. r .number) q))
         go false h true q = absurd (omega (arith, ap (λ r. r .number) q))
-        go false h false q = told (panel (lifts sheet) ws start) refl (ltb-false _ _ h) q
+        go false h false q = told f (panel (lifts sheet) ws start) refl (ltb-false _ _ h) q
 
     judged : (v : Verdict) → verdict sheet ≡ v → ofVerdict v (λ rounds. ofLent (lifts sheet) rounds ws start room) ≡ replied n k → Ran sheet ws start n k
     judged (refused x) h q = absurd (omega (arith, ap (λ r. r .number) q, decided sheet .above x h))
-    judged (fits m rounds) h q = lent rounds q
+    judged (fits m rounds) h q = lent (fit (decided sheet .only m rounds h .0)) rounds q

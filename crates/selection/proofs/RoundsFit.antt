@@ -1,82 +1,25 @@
 -- What lifts that fit give of each of their new rounds: the sums of the round and of its donors, and where held lifts stand.
 use Prim.Native.Nat.{ℕ, suc, _+_, _-_, _≤_, _<_}
 use mathlib.Core.Path.{_≡_, refl, sym, ap, ap₂, _∙_}
-use mathlib.Core.Bool.{Bool, true, false, cond, _&&_, _||_, false≢true, true≢false}
+use mathlib.Core.Bool.{Bool, true, false, cond, _&&_, true≢false}
 use mathlib.Core.List.{List, [], _∷_, map}
 use native.Mathlib.Omega.{arith}
-use lib.Dec.{eqb, ltb}
+use lib.Dec.{eqb}
 use lib.ListN.{length, length-map}
-use borrow.Author.Tests.{eqb-true, eqb-false, lt-ltb, ltb-true, ltb-false, leb-false}
-use Rattle.laws.specs.Sum.{total, totalBy}
+use borrow.Author.Tests.{eqb-true, eqb-false, lt-ltb, ltb-false, leb-false}
 use Rattle.laws.proofs.Tests.{eqb-comm}
-use Rattle.round.specs.Round.{S, U, Donate, Fitting as RoundFitting}
+use Rattle.round.specs.Round.{S, Sends, Donate, Fitting as RoundFitting}
 use Rattle.laws.specs.Initial.{Initial, here, elsewhere}
 use Rattle.round.specs.Share.{heldOf}
 use Rattle.round.specs.declared.Donors.the-variants.{One, Two}
-use Rattle.round.specs.Rows.{lift, Stands, Bounded, SumsBounded}
-use Rattle.round.specs.declared.Lift.{Lift as RoundLift}
+use Rattle.round.specs.Rows.{Stands, Bounded, SumsBounded}
 use Rattle.sheet.specs.Sheet.{mostRounds, largestSum, Lift}
 use Rattle.sheet.specs.Law.{Fit}
 use Rattle.sheet.specs.declared.Side.the-variants.{Old, New}
 use Rattle.sheet.proofs.Those.{those-head}
-use Rattle.sheet.specs.Rounds.{placeAt, named, sumOf, sends, donors, ofRound, donorNumber, further, heldAt}
-use Rattle.selection.specs.Choice.{withSums, donorsOf, liftsOf, heldAmong, heldIn}
-
--- ---- the sums of a round
-
--- the round of a list of lifts, with donors numbered by g
-abbrev roundBy : (ℕ → ℕ) → ℕ → List Lift → List RoundLift
-roundBy g r ls = map (λ l. lift (l .old .measure) (g (l .old .round)) (placeAt New l .measure)) (ofRound r ls)
-
-S-sum : (g : ℕ → ℕ) (r : ℕ) (ls : List Lift) → S (roundBy g r ls) ≡ sumOf New r ls
-unfolding S total totalBy ofRound
-S-sum g r [] = refl
-S-sum g r (l ∷ ls) = go (eqb (l .new .round) r) (S-sum g r ls)
-  where
-    go : (t : Bool) → S (roundBy g r ls) ≡ sumOf New r ls
-        → S (map (λ l. lift (l .old .measure) (g (l .old .round)) (placeAt New l .measure)) (cond t (l ∷ ofRound r ls) (ofRound r ls))) ≡ cond t (placeAt New l .measure) 0 + sumOf New r ls
-    go true e = ap (λ x. placeAt New l .measure + x) e
-    go false e = omega arith
-
--- what old round d sends to new round r
-sentTo : ℕ → ℕ → List Lift → ℕ
-sentTo d r [] = 0
-sentTo d r (l ∷ ls) = cond (eqb (l .new .round) r) (cond (eqb (l .old .round) d) (l .old .measure) 0) 0 + sentTo d r ls
-
--- U of the donor numbered k is that, if g numbers old round d alone by k
-U-sum : (g : ℕ → ℕ) (k d : ℕ) → ((t : ℕ) → eqb (g t) k ≡ eqb t d) → (r : ℕ) (ls : List Lift) → U k (roundBy g r ls) ≡ sentTo d r ls
-unfolding U totalBy ofRound sentTo
-U-sum g k d h r [] = refl
-U-sum g k d h r (l ∷ ls) = go (eqb (l .new .round) r) (U-sum g k d h r ls)
-  where
-    go : (t : Bool) → U k (roundBy g r ls) ≡ sentTo d r ls
-        → U k (map (λ l. lift (l .old .measure) (g (l .old .round)) (placeAt New l .measure)) (cond t (l ∷ ofRound r ls) (ofRound r ls))) ≡ cond t (cond (eqb (l .old .round) d) (l .old .measure) 0) 0 + sentTo d r ls
-    go true e = ap₂ (λ x y. cond x (l .old .measure) 0 + y) (h (l .old .round)) e
-    go false e = omega arith
-
--- a part of the old sum
-sent-le : (d r : ℕ) (ls : List Lift) → sentTo d r ls ≤ sumOf Old d ls
-unfolding sentTo totalBy
-sent-le d r [] = omega arith
-sent-le d r (l ∷ ls) = go (eqb (l .new .round) r) (sent-le d r ls)
-  where
-    go : (t : Bool) → sentTo d r ls ≤ sumOf Old d ls
-        → cond t (cond (eqb (l .old .round) d) (l .old .measure) 0) 0 + sentTo d r ls ≤ cond (eqb (l .old .round) d) (l .old .measure) 0 + sumOf Old d ls
-    go true e = omega arith
-    go false e = omega arith
-
--- above 0 for a donor
-sent-some : (d r : ℕ) (ls : List Lift) → sends d r ls ≡ true → 0 < sentTo d r ls
-unfolding sentTo sends
-sent-some d r [] e = absurd (false≢true e)
-sent-some d r (l ∷ ls) e = go (eqb (l .old .round) d) (eqb (l .new .round) r) (ltb 0 (l .old .measure)) refl e (sent-some d r ls)
-  where
-    go : (x y z : Bool) → ltb 0 (l .old .measure) ≡ z → (x && (y && z) || sends d r ls) ≡ true → (sends d r ls ≡ true → 0 < sentTo d r ls)
-        → 0 < cond y (cond x (l .old .measure) 0) 0 + sentTo d r ls
-    go true true true q e h = omega (arith, ltb-true 0 (l .old .measure) q)
-    go true true false q e h = omega (arith, h e)
-    go true false z q e h = omega (arith, h e)
-    go false y z q e h = omega (arith, h e)
+use Rattle.sheet.specs.Rounds.{named, sumOf, sends, donors, ofRound, donorNumber, further, heldAt}
+use Rattle.selection.specs.Choice.{withSums, donorsOf, inRound, liftsOf, heldAmong, heldIn}
+use Rattle.selection.proofs.Sums.{S-sum, U-sum, ofRound-le, sends-some}
 
 -- ---- donors
 
@@ -149,17 +92,18 @@ module _ {ls : List Lift} (f : Fit ls) {r : ℕ} (low : 1 ≤ r) (high : r ≤ m
   sum-old : (d : ℕ) → 1 ≤ d → d ≤ mostRounds → sumOf Old d ls ≤ largestSum
   sum-old d l h = ltb-false largestSum (sumOf Old d ls) (f .rounds .old d l h)
 
-  donated : (ds : List ℕ) → Senders r ls ds → Donate (withSums ds ls) (roundBy (donorNumber ds) r ls)
-  donated [] none = tt
-  donated (d ∷ []) (one s l h) =
-      let e = U-sum (donorNumber (d ∷ [])) 1 d (number-first d []) r ls in
-      record { some = rw e (sent-some d r ls s); part = rw e (sent-le d r ls) }
-  donated (d ∷ c ∷ []) (two s t l m h) =
-      let e = U-sum (donorNumber (d ∷ c ∷ [])) 1 d (number-first d (c ∷ [])) r ls in
-      let g = U-sum (donorNumber (d ∷ c ∷ [])) 2 c (number-second d c [] m) r ls in
-      (record { some = rw e (sent-some d r ls s); part = rw e (sent-le d r ls) }, record { some = rw g (sent-some c r ls t); part = rw g (sent-le c r ls) })
+  -- what a donor sends is a part of its old sum
+  sent : (number : ℕ → ℕ) (k d : ℕ) → ((t : ℕ) → eqb (number t) k ≡ eqb t d) → sends d r ls ≡ true → Sends k (sumOf Old d ls) (map (inRound number) (ofRound r ls))
+  sent number k d h s =
+      let e = U-sum number k d h (ofRound r ls) in
+      record { some = rw e (sends-some d r ls s); part = rw e (ofRound-le (λ l. l .old .round) (λ l. l .old .measure) d r ls) }
 
-  limited : (ds : List ℕ) → Senders r ls ds → SumsBounded (withSums ds ls)
+  donated : (ds : List ℕ) → Senders r ls ds → Donate (withSums (λ t. sumOf Old t ls) ds) (map (inRound (donorNumber ds)) (ofRound r ls))
+  donated [] none = tt
+  donated (d ∷ []) (one s l h) = sent (donorNumber (d ∷ [])) 1 d (number-first d []) s
+  donated (d ∷ c ∷ []) (two s t l m h) = (sent (donorNumber (d ∷ c ∷ [])) 1 d (number-first d (c ∷ [])) s, sent (donorNumber (d ∷ c ∷ [])) 2 c (number-second d c [] m) t)
+
+  limited : (ds : List ℕ) → Senders r ls ds → SumsBounded (withSums (λ t. sumOf Old t ls) ds)
   limited [] none = tt
   limited (d ∷ []) (one s l h) = sum-old d l h
   limited (d ∷ c ∷ []) (two s t l m h) = (sum-old d l (omega arith), sum-old c (omega arith) h)
@@ -184,7 +128,7 @@ module _ {ls : List Lift} (f : Fit ls) {r : ℕ} (low : 1 ≤ r) (high : r ≤ m
   unfolding donorsOf
   round-bounded = record { new = rw S-round sum-new; old = limited (donors r ls) senders }
 
-  stands-among : (ds : List ℕ) → Senders r ls ds → (us : List Lift) → Stands (withSums ds ls) (heldAmong ds us) (length us)
+  stands-among : (ds : List ℕ) → Senders r ls ds → (us : List Lift) → Stands (withSums (λ t. sumOf Old t ls) ds) (heldAmong (λ t. heldAt t us) ds) (length us)
   stands-among [] none us = tt
   stands-among (d ∷ []) (one s l h) us = go (heldAt d us) (sits d us)
     where
@@ -202,5 +146,5 @@ module _ {ls : List Lift} (f : Fit ls) {r : ℕ} (low : 1 ≤ r) (high : r ≤ m
   pub round-stands : Stands (donorsOf r ls) (heldIn r ls) (length (liftsOf r ls))
   unfolding donorsOf heldIn liftsOf
   round-stands =
-      rw (length-map (ofRound r ls) (λ l. lift (l .old .measure) (donorNumber (donors r ls) (l .old .round)) (placeAt New l .measure)))
+      rw (length-map (ofRound r ls) (inRound (donorNumber (donors r ls))))
       (stands-among (donors r ls) senders (ofRound r ls))

@@ -2,7 +2,7 @@
 use Prim.Native.Nat.{ℕ, _+_, _≤_, _<_}
 use mathlib.Core.Path.{_≡_, refl, sym, ap, _∙_}
 use mathlib.Core.Bool.{Bool, true, false, cond, _&&_, _||_, true≢false}
-use mathlib.Core.List.{List, [], _∷_, _++_}
+use mathlib.Core.List.{List, [], _∷_, _++_, map}
 use native.Mathlib.Omega.{arith}
 use lib.Dec.{eqb, ltb, leb}
 use lib.ListN.{length}
@@ -20,12 +20,12 @@ use Rattle.sheet.specs.Law.{Listed, Fit}
 use Rattle.sheet.specs.declared.Side.the-variants.{Old}
 use Rattle.sheet.proofs.Those.{those-none, Rising, those-rise}
 use Rattle.sheet.specs.Rounds.{named, sumOf, heldIn as heldCount, sends, donors, ofRound, donorNumber, heldAt}
-use Rattle.selection.specs.Choice.{withSums, donorsOf, liftsOf, heldAmong, heldIn}
+use Rattle.selection.specs.Choice.{withSums, donorsOf, inRound, liftsOf, heldAmong, heldIn}
 use Rattle.selection.specs.Initial.{marked, odds, overSelections}
 use Rattle.selection.proofs.Marks.{sends-marked, ofRound-marked}
 use Rattle.selection.proofs.RoundsFit.{number-first, number-second}
 use Rattle.selection.proofs.Means.{nth, mean, mean-≈, mean-den, means, Unseen, reduced}
-use Rattle.selection.proofs.Standing.{numbered-once, heldAt-drop, stands, keyed, sorted}
+use Rattle.selection.proofs.Standing.{numbered-once, heldAt-drop, stands, sorted}
 
 -- ---- the rounds of a sheet
 
@@ -64,20 +64,20 @@ module _ (n : ℕ) (ls : List Lift) (l : Listed n ls) (r : ℕ) (f : Held → Fr
   other i b d h k m = heldAt-drop d r k m (nth ls i) ls (λ j c e z. h (ap (λ y. y .old .round) (numbered-once n ls l i j b c e) ∙ z))
 
   -- the held lifts of the donors don't depend on the other old rounds
-  donors-seen : (a : ℕ) (ds : List ℕ) → Rising (Donor r ls) a ds → Unseen (λ t. sends t r ls) ls (λ m. f (heldAmong ds (marked m (ofRound r ls))))
+  donors-seen : (a : ℕ) (ds : List ℕ) → Rising (Donor r ls) a ds → Unseen (λ t. sends t r ls) ls (λ m. f (heldAmong (λ t. heldAt t (marked m (ofRound r ls))) ds))
   donors-seen a ds s k m i b e = ap f (go ds s)
     where
       without : (d : ℕ) → sends d r ls ≡ true → heldAt d (marked (k ++ nth ls i ∷ m) (ofRound r ls)) ≡ heldAt d (marked (k ++ m) (ofRound r ls))
       without d h = other i b d (λ z. true≢false (sym h ∙ ap (λ t. sends t r ls) (sym z) ∙ e)) k m
 
-      go : (ds : List ℕ) → Rising (Donor r ls) a ds → heldAmong ds (marked (k ++ nth ls i ∷ m) (ofRound r ls)) ≡ heldAmong ds (marked (k ++ m) (ofRound r ls))
+      go : (ds : List ℕ) → Rising (Donor r ls) a ds → heldAmong (λ t. heldAt t (marked (k ++ nth ls i ∷ m) (ofRound r ls))) ds ≡ heldAmong (λ t. heldAt t (marked (k ++ m) (ofRound r ls))) ds
       go [] s = refl
       go (d ∷ []) s = rw (without d (s .1 .0))
       go (d ∷ e ∷ ds) s = rw (without d (s .1 .0), without e (s .2 .1 .0))
 
   -- the mean over at most two donors
   donors-mean : (a : ℕ) (ds : List ℕ) → Rising (Donor r ls) a ds → leb 3 (length ds) ≡ false
-      → means ds ls (λ m. f (heldAmong ds (marked m (ofRound r ls)))) ≈ overHeld (withSums ds ls) (keyed (donorNumber ds) (ofRound r ls)) f
+      → means ds ls (λ m. f (heldAmong (λ t. heldAt t (marked m (ofRound r ls))) ds)) ≈ overHeld (withSums (λ t. sumOf Old t ls) ds) (map (inRound (donorNumber ds)) (ofRound r ls)) f
   unfolding means overHeld overInitial
   donors-mean a [] s c = ≈-refl (u Neither)
   donors-mean a (d ∷ []) s c = sorted d r 1 (donorNumber (d ∷ [])) (number-first d []) (sumOf Old d ls) (s .1 .1) n ls l (λ x. f (heldOf x elsewhere)) (λ x. u (heldOf x elsewhere))
@@ -88,9 +88,9 @@ module _ (n : ℕ) (ls : List Lift) (l : Listed n ls) (r : ℕ) (f : Held → Fr
       let p₂ : 0 < T₂ = s .2 .1 .1 in
       let key : ℕ → ℕ = donorNumber (d ∷ e ∷ []) in
       let us : List Lift = ofRound r ls in
-      let inner : Initial → Fraction = λ x. overInitial 2 T₂ (keyed key us) (λ y. f (heldOf x y)) in
-      let w : (x : Initial) → 0 < inner x .den = λ x. initial-den 2 T₂ (keyed key us) (λ y. f (heldOf x y)) p₂ (λ y. u (heldOf x y)) in
-      let both : Lift → Lift → Fraction = λ x y. f (heldAmong (d ∷ e ∷ []) (marked (x ∷ y ∷ []) us)) in
+      let inner : Initial → Fraction = λ x. overInitial 2 T₂ (map (inRound key) us) (λ y. f (heldOf x y)) in
+      let w : (x : Initial) → 0 < inner x .den = λ x. initial-den 2 T₂ (map (inRound key) us) (λ y. f (heldOf x y)) p₂ (λ y. u (heldOf x y)) in
+      let both : Lift → Lift → Fraction = λ x y. f (heldAmong (λ t. heldAt t (marked (x ∷ y ∷ []) us)) (d ∷ e ∷ [])) in
       let apart : (i : ℕ) → i < length ls → nth ls i .old .round ≡ d → (j : ℕ) → j < length ls → nth ls j .old .round ≡ e
       → both (nth ls i) (nth ls j) ≈ f (heldOf (stands d (nth ls i) us) (stands e (nth ls j) us))
       = λ i b v j c z.
@@ -121,7 +121,7 @@ transfer ls f r a b F u =
     let h : (t : ℕ) → sends t r ls ≡ true → ltb 0 (named Old t ls) ≡ true = λ t e. lt-ltb 0 (named Old t ls) (sends-named t r ls e) in
     let ds = donors r ls in
     let s = those-rise (Donor r ls) (λ t. sends t r ls) 1 mostRounds (λ t a b e. (e, measured ls f t a b (h t e))) in
-    let g : List Lift → Fraction = λ m. F (heldAmong ds (marked m (ofRound r ls))) in
+    let g : List Lift → Fraction = λ m. F (heldAmong (λ t. heldAt t (marked m (ofRound r ls))) ds) in
     simp (sends-marked, ofRound-marked)
     (≈-trans
     (reduced ls (λ t. ltb 0 (named Old t ls)) (λ t. sends t r ls) h 1 mostRounds (measured ls f) g (λ m. u _) (donors-seen 0 ls l r F u 1 ds s))

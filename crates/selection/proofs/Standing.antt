@@ -13,14 +13,15 @@ use Rattle.laws.specs.Sum.{over, totalBy}
 use Rattle.laws.specs.Fraction.{Fraction, _//_, _⊕_, _⊗_, _≈_, sum}
 use Rattle.laws.proofs.Fractions.{pos-left, ≈-refl, ≈-trans, ⊕-assoc, ⊕-≈}
 use Rattle.round.specs.Round.{liftAt, sent, U}
-use Rattle.round.specs.Rows.{lift}
 use Rattle.laws.specs.Initial.{Initial, here, elsewhere}
 use Rattle.round.specs.declared.Lift.{Lift as RoundLift}
 use Rattle.sheet.specs.Sheet.{Lift}
 use Rattle.sheet.specs.Law.{Listed}
-use Rattle.sheet.specs.declared.Side.the-variants.{Old, New}
-use Rattle.sheet.specs.Rounds.{placeAt, sumOf, ofRound, further, heldAt}
+use Rattle.sheet.specs.declared.Side.the-variants.{Old}
+use Rattle.sheet.specs.Rounds.{sumOf, ofRound, further, heldAt}
+use Rattle.selection.specs.Choice.{inRound}
 use Rattle.selection.specs.Initial.{names, marked}
+use Rattle.selection.proofs.Sums.{U-sum, ofRound-le}
 use Rattle.selection.proofs.Means.{nth, brought, mean, brought-≈, mean-≈}
 
 -- ---- numbers
@@ -84,10 +85,6 @@ stands-later t l u us h = rw (ne-eqb (l .number) (u .number) h)
 
 -- ---- the lifts of a donor, sorted by where they stand
 
--- lifts as a round has them, with a number for each old round
-abbrev pub keyed : (ℕ → ℕ) → List Lift → List RoundLift
-keyed key us = map (λ l. lift (l .old .measure) (key (l .old .round)) (placeAt New l .measure)) us
-
 -- the mean over the initial selections of donor k, if its lifts measure S and weigh by T
 abbrev pub placed : ℕ → ℕ → ℕ → List RoundLift → (Initial → Fraction) → Fraction
 placed k T S us f = sum (length us) (λ i. sent k (liftAt us i) // T ⊗ f (here i)) ⊕ (S - U k us) // T ⊗ f elsewhere
@@ -100,18 +97,12 @@ away-more T b c q e p u v h =
 -- donor k is old round t
 module _ (t r k : ℕ) (key : ℕ → ℕ) (own : (s : ℕ) → eqb (key s) k ≡ eqb s t) where
   -- what comes here is a part of the whole
-  pub came-part : (ls : List Lift) → U k (keyed key (ofRound r ls)) ≤ sumOf Old t ls
-  unfolding U totalBy ofRound
-  came-part [] = omega arith
-  came-part (l ∷ ls) = go (eqb (l .new .round) r) (came-part ls)
-    where
-      go : (x : Bool) → U k (keyed key (ofRound r ls)) ≤ sumOf Old t ls → U k (keyed key (cond x (l ∷ ofRound r ls) (ofRound r ls))) ≤ brought t l + sumOf Old t ls
-      go true h = rw (own (l .old .round)) (omega arith)
-      go false h = omega arith
+  came-part : (ls : List Lift) → U k (map (inRound key) (ofRound r ls)) ≤ sumOf Old t ls
+  came-part ls = rw (U-sum key k t own (ofRound r ls)) (ofRound-le (λ l. l .old .round) (λ l. l .old .measure) t r ls)
 
   -- a donor's lifts by their places here, and what stands elsewhere
   pub sorted : (T : ℕ) → 0 < T → (n : ℕ) (ls : List Lift) → Listed n ls → (f : Initial → Fraction) → ((x : Initial) → 0 < f x .den)
-      → mean t T ls (λ l. f (stands t l (ofRound r ls))) ≈ placed k T (sumOf Old t ls) (keyed key (ofRound r ls)) f
+      → mean t T ls (λ l. f (stands t l (ofRound r ls))) ≈ placed k T (sumOf Old t ls) (map (inRound key) (ofRound r ls)) f
   unfolding mean over totalBy U ofRound Listed
   sorted T p n [] d f u = record { cross = omega arith; left = omega arith; right = omega (arith, mul-pos p (u elsewhere)) }
   sorted T p n (l ∷ ls) d f u = go (eqb (l .new .round) r) (sorted T p (l .number) ls (d .1))
@@ -120,23 +111,23 @@ module _ (t r k : ℕ) (key : ℕ → ℕ) (own : (s : ℕ) → eqb (key s) k �
       us = ofRound r ls
 
       standing : (Initial → Fraction) → Fraction
-      standing g = sum (length (keyed key us)) (λ i. sent k (liftAt (keyed key us) i) // T ⊗ g (here i))
+      standing g = sum (length (map (inRound key) us)) (λ i. sent k (liftAt (map (inRound key) us) i) // T ⊗ g (here i))
 
       later : (i : ℕ) → i < length ls → l .number < nth ls i .number
       later = above (l .number) ls (d .1)
 
       go : (x : Bool)
-          → ((g : Initial → Fraction) → ((y : Initial) → 0 < g y .den) → mean t T ls (λ y. g (stands t y us)) ≈ placed k T (sumOf Old t ls) (keyed key us) g)
-          → mean t T (l ∷ ls) (λ y. f (stands t y (cond x (l ∷ us) us))) ≈ placed k T (brought t l + sumOf Old t ls) (keyed key (cond x (l ∷ us) us)) f
+          → ((g : Initial → Fraction) → ((y : Initial) → 0 < g y .den) → mean t T ls (λ y. g (stands t y us)) ≈ placed k T (sumOf Old t ls) (map (inRound key) us) g)
+          → mean t T (l ∷ ls) (λ y. f (stands t y (cond x (l ∷ us) us))) ≈ placed k T (brought t l + sumOf Old t ls) (map (inRound key) (cond x (l ∷ us) us)) f
       go true e =
           let g : Initial → Fraction = λ y. f (further y) in
           let a = brought-≈ t T p l (f (stands t l (l ∷ us))) (f (here 0)) (u (stands t l (l ∷ us))) (u (here 0)) (λ z. rw (stands-first t l us z) (≈-refl (u (here 0)))) in
           let b = mean-≈ t T p ls (λ y. f (stands t y (l ∷ us))) (λ y. g (stands t y us)) (λ y. u (stands t y (l ∷ us))) (λ y. u (further (stands t y us)))
           (λ i c _. let h : nth ls i .number ≡ l .number → ⊥ = omega (arith, later i c) in rw (stands-later t (nth ls i) l us h) (≈-refl (u (further (stands t (nth ls i) us))))) in
-          let z : brought t l + sumOf Old t ls - (brought t l + U k (keyed key us)) ≡ sumOf Old t ls - U k (keyed key us) = omega arith in
-          rw (own (l .old .round), z, ⊕-assoc (brought t l // T ⊗ f (here 0)) (standing g) ((sumOf Old t ls - U k (keyed key us)) // T ⊗ f elsewhere))
+          let z : brought t l + sumOf Old t ls - (brought t l + U k (map (inRound key) us)) ≡ sumOf Old t ls - U k (map (inRound key) us) = omega arith in
+          rw (own (l .old .round), z, ⊕-assoc (brought t l // T ⊗ f (here 0)) (standing g) ((sumOf Old t ls - U k (map (inRound key) us)) // T ⊗ f elsewhere))
           (⊕-≈ a (≈-trans b (e g (λ y. u (further y)))))
       go false e =
           let h : stands t l us ≡ elsewhere = heldAt-drop t r [] [] l ls (λ i b z _. omega (arith, later i b)) ∙ stands-nowhere t us in
-          let z : brought t l + sumOf Old t ls - U k (keyed key us) ≡ brought t l + (sumOf Old t ls - U k (keyed key us)) = omega (arith, came-part ls) in
-          rw (h, z) (away-more T (brought t l) (sumOf Old t ls - U k (keyed key us)) (standing f) (f elsewhere) p (pos-left (standing f .den) _ (e f u .right)) (u elsewhere) (e f u))
+          let z : brought t l + sumOf Old t ls - U k (map (inRound key) us) ≡ brought t l + (sumOf Old t ls - U k (map (inRound key) us)) = omega (arith, came-part ls) in
+          rw (h, z) (away-more T (brought t l) (sumOf Old t ls - U k (map (inRound key) us)) (standing f) (f elsewhere) p (pos-left (standing f .den) _ (e f u .right)) (u elsewhere) (e f u))

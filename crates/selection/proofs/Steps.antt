@@ -42,9 +42,15 @@ steps ls ws from (r ∷ rs) {cs} {next} e = go (run largest ws from (planOf r ls
     go (finished vs s n) q x rest = behind vs s n q (panelFrom ls ws n rs) x (rest n)
     go ended q x rest = let z : _≡_ {A = ℕ} 0 1 = cc in absurd (omega arith)
 
--- a choice for each round, and positions rise
-pub steps-count : {ls : List Lift} {ws : List ℕ} {from next : ℕ} {rs : List ℕ} {cs : List Choice} → Steps ls ws from rs cs next → (length cs ≡ length rs) × (from ≤ next)
-steps-count none = (refl, omega arith)
-steps-count {ls} {ws} {from} (some {r = r} q k) =
-    let c = steps-count k in
-    (ap suc (c .0), omega (arith, c .1, run-between largest ws from (planOf r ls) q .0))
+-- a choice for each round, and positions rise, up to the last word
+pub steps-count : {ls : List Lift} {ws : List ℕ} {from next : ℕ} {rs : List ℕ} {cs : List Choice} → Steps ls ws from rs cs next → length cs ≡ length rs
+steps-count none = refl
+steps-count (some q k) = ap suc (steps-count k)
+
+pub steps-between : {ls : List Lift} {ws : List ℕ} {from next : ℕ} {rs : List ℕ} {cs : List Choice} → Steps ls ws from rs cs next
+    → (from ≤ next) × (from ≤ length ws → next ≤ length ws)
+steps-between none = (omega arith, λ h. h)
+steps-between {ls} {ws} {from} (some {r = r} q k) =
+    let c = steps-between k in
+    let d = run-between largest ws from (planOf r ls) q in
+    (omega (arith, c .0, d .0), λ h. c .1 (d .1 h))

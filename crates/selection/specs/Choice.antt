@@ -10,7 +10,7 @@ use Rattle.draw.specs.Draw.{largest}
 use Rattle.draw.specs.Run.{Run, finished, short as ended, run}
 use Rattle.round.specs.Rows.{lift}
 use Rattle.round.specs.Choice.{Selection, plan, outcome}
-use Rattle.laws.specs.Initial.{elsewhere}
+use Rattle.laws.specs.Initial.{Initial, elsewhere}
 use Rattle.round.specs.Share.{heldOf}
 use Rattle.round.specs.declared.Donors.{Donors}
 use Rattle.round.specs.declared.Donors.the-variants.{None, One, Two}
@@ -27,28 +27,32 @@ use Rattle.sheet.specs.declared.Side.the-variants.{Old, New}
 -- ---- one round of a sheet
 
 -- donors with their whole old sums: "T is the donor's whole old sum, lifts gone elsewhere included."
-abbrev pub withSums : List ℕ → List Lift → Donors
-withSums [] ls = None
-withSums (d ∷ []) ls = One (sumOf Old d ls)
-withSums (d ∷ e ∷ ds) ls = Two (sumOf Old d ls) (sumOf Old e ls)
+abbrev pub withSums : (ℕ → ℕ) → List ℕ → Donors
+withSums T [] = None
+withSums T (d ∷ []) = One (T d)
+withSums T (d ∷ e ∷ ds) = Two (T d) (T e)
 
 -- the donors of new round r
 unfoldable pub donorsOf : ℕ → List Lift → Donors
-donorsOf r ls = withSums (donors r ls) ls
+donorsOf r ls = withSums (λ t. sumOf Old t ls) (donors r ls)
 
--- the lifts of new round r, with their old and new measures and their donors
+-- a lift as its new round has it: its old and new measures, and the number of its donor, by a numbering of old rounds
+abbrev pub inRound : (ℕ → ℕ) → Lift → RoundLift
+inRound number l = lift (l .old .measure) (number (l .old .round)) (placeAt New l .measure)
+
+-- the lifts of new round r
 unfoldable pub liftsOf : ℕ → List Lift → List RoundLift
-liftsOf r ls = map (λ l. lift (l .old .measure) (donorNumber (donors r ls) (l .old .round)) (placeAt New l .measure)) (ofRound r ls)
+liftsOf r ls = map (inRound (donorNumber (donors r ls))) (ofRound r ls)
 
--- where the held lifts of some donors stand among some lifts
-abbrev pub heldAmong : List ℕ → List Lift → Held
-heldAmong [] ls = Neither
-heldAmong (d ∷ []) ls = heldOf (heldAt d ls) elsewhere
-heldAmong (d ∷ e ∷ ds) ls = heldOf (heldAt d ls) (heldAt e ls)
+-- the held lifts of some donors, from where each donor's stands
+abbrev pub heldAmong : (ℕ → Initial) → List ℕ → Held
+heldAmong place [] = Neither
+heldAmong place (d ∷ []) = heldOf (place d) elsewhere
+heldAmong place (d ∷ e ∷ ds) = heldOf (place d) (place e)
 
 -- the held lifts in new round r
 unfoldable pub heldIn : ℕ → List Lift → Held
-heldIn r ls = heldAmong (donors r ls) (ofRound r ls)
+heldIn r ls = heldAmong (λ t. heldAt t (ofRound r ls)) (donors r ls)
 
 -- the choice of new round r: "What it chooses depends only on its own lifts, its donors' sums and held lifts, and the chance words"
 unfoldable pub planOf : ℕ → List Lift → Plan Selection

@@ -7,7 +7,8 @@ use Rattle.sheet.specs.Rounds.{inUse}
 use Rattle.sheet.specs.declared.Side.the-variants.{New}
 use Rattle.sheet.proofs.Verdicts.{fit, in-use}
 use Rattle.panel.specs.Choosing.{told}
-use Rattle.panel.proofs.Answers.{onward, writable, left, few-rounds, lacks, suffices, through}
+use Rattle.selection.proofs.Choices.{few-rounds}
+use Rattle.panel.proofs.Answers.{onward, writable, left, lacks, suffices, through}
 use borrow.Author.Needs.{needs}
 use Rattle.panel.proofs.choose_fitting.Statement.{statement}
 use Rattle.panel.proofs.choose_fitting.Tie as tie

@@ -11,7 +11,8 @@ use Rattle.sheet.proofs.Verdicts.{fit, in-use}
 use Rattle.carry.specs.Next.{wordsNeeded}
 use Rattle.carry.proofs.Writing.{remaining-fit}
 use Rattle.panel.specs.Choosing.{told}
-use Rattle.panel.proofs.Answers.{onward, writable, few-rounds, lacks, suffices}
+use Rattle.selection.proofs.Choices.{few-rounds}
+use Rattle.panel.proofs.Answers.{onward, writable, lacks, suffices}
 use Rattle.panel.proofs.Nexts.{both-left, room, cramped, through-next}
 use borrow.Author.Needs.{needs}
 use Rattle.panel.proofs.choose_next_fitting.Statement.{statement}

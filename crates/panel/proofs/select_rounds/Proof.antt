@@ -1,8 +1,7 @@
 -- `panel::select_rounds` meets its contract: the choices of the rounds before one, and the panel from it on, are the whole panel. Assumes nothing.
 use native.Mathlib.Omega.{arith}
 use Prim.Native.Nat.{_+_, _-_}
-use mathlib.Core.Path.{refl, ap₂, _∙_}
-use Rattle.round.specs.Share.{heldOf}
+use mathlib.Core.Path.{refl}
 use Rattle.sheet.specs.Sheet.{mostRounds, lifts}
 use Rattle.sheet.proofs.Verdicts.{fit}
 use Rattle.panel.proofs.Rounds.{Lent, rises, few, part-end, callable}
@@ -16,6 +15,13 @@ Inv-loop sheet words start rows t x numbers₀ outcomes₀ next₀ r₀ numbers 
 
 abbrev μ-loop : tie.MeasureT-loop
 μ-loop sheet words start rows t x numbers₀ outcomes₀ next₀ r₀ numbers outcomes next r = mostRounds + 1 - r
+
+-- from a round's held lifts back to the loop's test, and from its choice back to its held lifts
+abbrev tested : tie.After-held-in Inv-loop μ-loop → tie.In-loop Inv-loop μ-loop
+tested c = c .before .before .before .before .before .before .before .before .before .before
+
+abbrev marked : tie.After-choose-lift Inv-loop μ-loop → tie.After-held-in Inv-loop μ-loop
+marked c = c .before .before .before
 
 lay-out-requires : tie.Need-lay-out-requires Inv-loop μ-loop
 lay-out-requires c κs = c .before .before .before .before .pre
@@ -64,71 +70,76 @@ element-copy-out-second c = search needs
 with-sums-requires : tie.Need-with-sums-requires Inv-loop μ-loop
 with-sums-requires c κs = search needs
 
-held-place-requires : tie.Need-held-place-requires Inv-loop μ-loop
-held-place-requires c κs = search needs
-
-held-place-requires-2 : tie.Need-held-place-requires-2 Inv-loop μ-loop
-held-place-requires-2 c κs = search needs
+held-in-requires : tie.Need-held-in-requires Inv-loop μ-loop
+held-in-requires c κs = search needs
 
 mul-begin : tie.Need-mul-begin Inv-loop μ-loop
-mul-begin c = omega (arith, rises (c .before .before .before .before .before .before .before .before .before .before .before .before .before .before .loop .inv .0) (c .before .before .before .before .before .before .before .before .before .before .before .before .before .before .loop .inv .1 .low) (c .before .before .before .before .before .before .before .before .before .before .before .before .before .loop-test .taken), few (c .before .before .before .before .before .before .before .before .before .before .before .before .before .before .loop .inv .0) (c .before .before .before .before .before .before .before .before .before .before .before .before .before .before .loop .inv .1 .low) (c .before .before .before .before .before .before .before .before .before .before .before .before .before .loop-test .taken))
+mul-begin c = let b = tested c in omega (arith, rises (b .before .loop .inv .0) (b .before .loop .inv .1 .low) (b .loop-test .taken), few (b .before .loop .inv .0) (b .before .loop .inv .1 .low) (b .loop-test .taken))
 
 mul-end : tie.Need-mul-end Inv-loop μ-loop
-mul-end c = omega (arith, rises (c .before .before .before .before .before .before .before .before .before .before .before .before .before .before .loop .inv .0) (c .before .before .before .before .before .before .before .before .before .before .before .before .before .before .loop .inv .1 .low) (c .before .before .before .before .before .before .before .before .before .before .before .before .before .loop-test .taken), few (c .before .before .before .before .before .before .before .before .before .before .before .before .before .before .loop .inv .0) (c .before .before .before .before .before .before .before .before .before .before .before .before .before .before .loop .inv .1 .low) (c .before .before .before .before .before .before .before .before .before .before .before .before .before .loop-test .taken))
+mul-end c = let b = tested c in omega (arith, rises (b .before .loop .inv .0) (b .before .loop .inv .1 .low) (b .loop-test .taken), few (b .before .loop .inv .0) (b .before .loop .inv .1 .low) (b .loop-test .taken))
 
 mul-choose-lift : tie.Need-mul-choose-lift Inv-loop μ-loop
-mul-choose-lift c = omega (arith, rises (c .before .before .before .before .before .before .before .before .before .before .before .before .before .before .loop .inv .0) (c .before .before .before .before .before .before .before .before .before .before .before .before .before .before .loop .inv .1 .low) (c .before .before .before .before .before .before .before .before .before .before .before .before .before .loop-test .taken), few (c .before .before .before .before .before .before .before .before .before .before .before .before .before .before .loop .inv .0) (c .before .before .before .before .before .before .before .before .before .before .before .before .before .before .loop .inv .1 .low) (c .before .before .before .before .before .before .before .before .before .before .before .before .before .loop-test .taken))
+mul-choose-lift c = let b = tested c in omega (arith, rises (b .before .loop .inv .0) (b .before .loop .inv .1 .low) (b .loop-test .taken), few (b .before .loop .inv .0) (b .before .loop .inv .1 .low) (b .loop-test .taken))
 
 sub-choose-lift : tie.Need-sub-choose-lift Inv-loop μ-loop
-sub-choose-lift c = omega (arith, rises (c .before .before .before .before .before .before .before .before .before .before .before .before .before .before .loop .inv .0) (c .before .before .before .before .before .before .before .before .before .before .before .before .before .before .loop .inv .1 .low) (c .before .before .before .before .before .before .before .before .before .before .before .before .before .loop-test .taken), few (c .before .before .before .before .before .before .before .before .before .before .before .before .before .before .loop .inv .0) (c .before .before .before .before .before .before .before .before .before .before .before .before .before .before .loop .inv .1 .low) (c .before .before .before .before .before .before .before .before .before .before .before .before .before .loop-test .taken))
+sub-choose-lift c = let b = tested c in omega (arith, rises (b .before .loop .inv .0) (b .before .loop .inv .1 .low) (b .loop-test .taken), few (b .before .loop .inv .0) (b .before .loop .inv .1 .low) (b .loop-test .taken))
 
 part-choose-lift-start : tie.Need-part-choose-lift-start Inv-loop μ-loop
-part-choose-lift-start c = omega (arith, rises (c .before .before .before .before .before .before .before .before .before .before .before .before .before .before .before .loop .inv .0) (c .before .before .before .before .before .before .before .before .before .before .before .before .before .before .before .loop .inv .1 .low) (c .before .before .before .before .before .before .before .before .before .before .before .before .before .before .loop-test .taken), few (c .before .before .before .before .before .before .before .before .before .before .before .before .before .before .before .loop .inv .0) (c .before .before .before .before .before .before .before .before .before .before .before .before .before .before .before .loop .inv .1 .low) (c .before .before .before .before .before .before .before .before .before .before .before .before .before .before .loop-test .taken))
+part-choose-lift-start c = let b = tested (c .before) in omega (arith, rises (b .before .loop .inv .0) (b .before .loop .inv .1 .low) (b .loop-test .taken), few (b .before .loop .inv .0) (b .before .loop .inv .1 .low) (b .loop-test .taken))
 
 part-choose-lift-end : tie.Need-part-choose-lift-end Inv-loop μ-loop
-part-choose-lift-end c = omega (arith, part-end (c .before .before .before .before .before .before .before .before .before .before .before .before .before .before .before .loop .inv .0) (c .before .before .before .before .before .before .before .before .before .before .before .before .before .before .before .loop .inv .1 .low) (c .before .before .before .before .before .before .before .before .before .before .before .before .before .before .loop-test .taken))
-
-held-of-requires : tie.Need-held-of-requires Inv-loop μ-loop
-held-of-requires c κs = search needs
+part-choose-lift-end c = let b = tested (c .before) in omega (arith, part-end (b .before .loop .inv .0) (b .before .loop .inv .1 .low) (b .loop-test .taken))
 
 choose-lift-requires : tie.Need-choose-lift-requires Inv-loop μ-loop
-choose-lift-requires c κs = callable (c .before .before .before .before .before .before .before .before .before .before .before .before .before .before .before .before .before .loop .inv .0) (c .before .before .before .before .before .before .before .before .before .before .before .before .before .before .before .before .before .loop .inv .1 .low) (c .before .before .before .before .before .before .before .before .before .before .before .before .before .before .before .before .loop-test .taken) (c .before .before .before .before .before .before .before .before .before .with-sums .ensures) (c .held-of .ensures ∙ ap₂ heldOf (c .before .before .before .before .before .before .held-place .ensures) (c .before .before .before .held-place2 .ensures))
+choose-lift-requires c κs =
+    let x = c .before .before in
+    let b = tested x in
+    callable (b .before .loop .inv .0) (b .before .loop .inv .1 .low) (b .loop-test .taken) (x .before .before .before .with-sums .ensures) (x .held-in .ensures)
 
 enum-told : tie.Need-enum-told Inv-loop μ-loop
 enum-told c = search needs
 
 add-r : tie.Need-add-r Inv-loop μ-loop
-add-r c = omega (arith, c .before .before .before .before .before .before .before .before .before .before .before .before .before .before .before .before .before .before .before .loop-test .taken)
+add-r c = omega (arith, tested (marked (c .before .before)) .loop-test .taken)
 
 loop-less : tie.Need-loop-less Inv-loop μ-loop
-loop-less c = omega (arith, c .before .before .before .before .before .before .before .before .before .before .before .before .before .before .before .before .before .before .before .loop-test .taken)
+loop-less c = omega (arith, tested (marked (c .before .before)) .loop-test .taken)
 
 loop-again : tie.Need-loop-again Inv-loop μ-loop
-loop-again c = (c .before .before .before .before .before .before .before .before .before .before .before .before .before .before .before .before .before .before .before .before .loop .inv .0, on-passed (c .before .before .before .before .before .before .before .before .before .before .before .before .before .before .before .before .before .before .before .before .loop .inv .0) (c .before .before .before .before .before .before .before .before .before .before .before .before .before .before .before .before .before .before .before .before .loop .inv .1) (c .before .before .before .before .before .before .before .before .before .before .before .before .before .before .before .before .before .before .before .loop-test .taken) (c .before .before .before .before .before .before .before .before .before .before .before .before .with-sums .ensures) (c .before .before .before .held-of .ensures ∙ ap₂ heldOf (c .before .before .before .before .before .before .before .before .before .held-place .ensures) (c .before .before .before .before .before .before .held-place2 .ensures)) (c .before .before .choose-lift .ensures) (c .enum-told .given .1))
+loop-again c =
+    let y = c .before .before in
+    let x = marked y in
+    let b = tested x in
+    (b .before .loop .inv .0, on-passed (b .before .loop .inv .0) (b .before .loop .inv .1) (b .loop-test .taken) (x .before .before .before .with-sums .ensures) (x .held-in .ensures) (y .choose-lift .ensures) (c .enum-told .given .1))
 
 enum-known-number : tie.Need-enum-known-number Inv-loop μ-loop
 enum-known-number c = search needs
 
 mul-numbers : tie.Need-mul-numbers Inv-loop μ-loop
-mul-numbers c = omega (arith, c .before .before .before .before .before .before .before .before .before .before .before .before .before .before .before .before .before .before .before .before .loop-test .taken)
+mul-numbers c = omega (arith, tested (marked (c .before .before .before)) .loop-test .taken)
 
 array-write-numbers : tie.Need-array-write-numbers Inv-loop μ-loop
-array-write-numbers c = omega (arith, c .before .before .before .before .before .before .before .before .before .before .before .before .before .before .before .before .before .before .before .before .loop-test .taken)
+array-write-numbers c = omega (arith, tested (marked (c .before .before .before)) .loop-test .taken)
 
 mul-outcomes : tie.Need-mul-outcomes Inv-loop μ-loop
-mul-outcomes c = omega (arith, c .before .before .before .before .before .before .before .before .before .before .before .before .before .before .before .before .before .before .before .before .loop-test .taken)
+mul-outcomes c = omega (arith, tested (marked (c .before .before .before)) .loop-test .taken)
 
 array-write-outcomes : tie.Need-array-write-outcomes Inv-loop μ-loop
-array-write-outcomes c = omega (arith, c .before .before .before .before .before .before .before .before .before .before .before .before .before .before .before .before .before .before .before .before .loop-test .taken)
+array-write-outcomes c = omega (arith, tested (marked (c .before .before .before)) .loop-test .taken)
 
 add-r-2 : tie.Need-add-r-2 Inv-loop μ-loop
-add-r-2 c = omega (arith, c .before .before .before .before .before .before .before .before .before .before .before .before .before .before .before .before .before .before .before .before .loop-test .taken)
+add-r-2 c = omega (arith, tested (marked (c .before .before .before)) .loop-test .taken)
 
 loop-less-2 : tie.Need-loop-less-2 Inv-loop μ-loop
-loop-less-2 c = omega (arith, c .before .before .before .before .before .before .before .before .before .before .before .before .before .before .before .before .before .before .before .before .loop-test .taken)
+loop-less-2 c = omega (arith, tested (marked (c .before .before .before)) .loop-test .taken)
 
 loop-again-2 : tie.Need-loop-again-2 Inv-loop μ-loop
-loop-again-2 c = (c .before .before .before .before .before .before .before .before .before .before .before .before .before .before .before .before .before .before .before .before .before .loop .inv .0, on-chosen (c .before .before .before .before .before .before .before .before .before .before .before .before .before .before .before .before .before .before .before .before .before .loop .inv .0) (c .before .before .before .before .before .before .before .before .before .before .before .before .before .before .before .before .before .before .before .before .before .loop .inv .1) (c .before .before .before .before .before .before .before .before .before .before .before .before .before .before .before .before .before .before .before .before .loop-test .taken) (c .before .before .before .before .before .before .before .before .before .before .before .before .before .with-sums .ensures) (c .before .before .before .before .held-of .ensures ∙ ap₂ heldOf (c .before .before .before .before .before .before .before .before .before .before .held-place .ensures) (c .before .before .before .before .before .before .before .held-place2 .ensures)) (c .before .before .before .choose-lift .ensures) (c .before .number .given .1))
+loop-again-2 c =
+    let y = c .before .before .before in
+    let x = marked y in
+    let b = tested x in
+    (b .before .loop .inv .0, on-chosen (b .before .loop .inv .0) (b .before .loop .inv .1) (b .loop-test .taken) (x .before .before .before .with-sums .ensures) (x .held-in .ensures) (y .choose-lift .ensures) (c .before .number .given .1))
 
 enum-told-2 : tie.Need-enum-told-2 Inv-loop μ-loop
 enum-told-2 c = search needs
@@ -137,7 +148,11 @@ same-length : tie.Need-same-length Inv-loop μ-loop
 same-length c = search needs
 
 returns : tie.Need-returns Inv-loop μ-loop
-returns c = on-short (c .before .before .before .before .before .before .before .before .before .before .before .before .before .before .before .before .before .before .before .before .loop .inv .0) (c .before .before .before .before .before .before .before .before .before .before .before .before .before .before .before .before .before .before .before .before .loop .inv .1) (c .before .before .before .before .before .before .before .before .before .before .before .before .before .before .before .before .before .before .before .loop-test .taken) (c .before .before .before .before .before .before .before .before .before .before .before .before .with-sums .ensures) (c .before .before .before .held-of .ensures ∙ ap₂ heldOf (c .before .before .before .before .before .before .before .before .before .held-place .ensures) (c .before .before .before .before .before .before .held-place2 .ensures)) (c .before .before .choose-lift .ensures) (c .enum-told2 .given .1) _ refl
+returns c =
+    let y = c .before .before in
+    let x = marked y in
+    let b = tested x in
+    on-short (b .before .loop .inv .0) (b .before .loop .inv .1) (b .loop-test .taken) (x .before .before .before .with-sums .ensures) (x .held-in .ensures) (y .choose-lift .ensures) (c .enum-told2 .given .1) _ refl
 
 same-length-2 : tie.Need-same-length-2 Inv-loop μ-loop
 same-length-2 c = search needs
@@ -166,15 +181,13 @@ select-rounds-spec =
     mul-second-2
     element-copy-out-second
     with-sums-requires
-    held-place-requires
-    held-place-requires-2
+    held-in-requires
     mul-begin
     mul-end
     mul-choose-lift
     sub-choose-lift
     part-choose-lift-start
     part-choose-lift-end
-    held-of-requires
     choose-lift-requires
     enum-told
     add-r

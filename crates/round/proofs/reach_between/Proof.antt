@@ -2,14 +2,15 @@
 use borrow.Author.Needs.{needs}
 use Prim.Native.Nat.{_-_}
 use mathlib.Core.List.{map}
+use lib.Seq.{slice}
 use Rattle.round.specs.Round.{G}
-use Rattle.round.specs.Rows.{lifts, scaled, between}
+use Rattle.round.specs.Rows.{lifts, scaled}
 use Rattle.round.proofs.Loops.{Summed, grows, reach-none, sum-turn, sum-fits, sum-end, G-room, read-room}
 use Rattle.round.proofs.reach_between.Statement.{statement}
 use Rattle.round.proofs.reach_between.Tie as tie
 
 abbrev Inv-loop : tie.InvT-loop
-Inv-loop s rows a e sum₀ i₀ sum i = Summed (grows s) (lifts rows) e (G (map (scaled s) (between a e (lifts rows)))) sum i
+Inv-loop s rows a e sum₀ i₀ sum i = Summed (grows s) (lifts rows) e (G (map (scaled s) (slice a e (lifts rows)))) sum i
 
 abbrev μ-loop : tie.MeasureT-loop
 μ-loop s rows a e sum₀ i₀ sum i = e - i
