@@ -12,8 +12,6 @@ use Rattle.sheet.specs.Sheet.{mostRounds, notCounted, oldKind, newKind, Lift}
 use Rattle.sheet.specs.Reading.{tooLarge}
 use Rattle.sheet.specs.Rounds.{filledIn, placeAt, named, inUse, sumOf, sends, donors, ofRound}
 use Rattle.sheet.specs.Law.{Listed}
-use Rattle.sheet.specs.Tables.{fieldOf}
-use Rattle.sheet.specs.declared.Field.the-variants.{Round, Unit}
 use Rattle.sheet.specs.declared.Side.{Side}
 use Rattle.sheet.specs.declared.Side.the-variants.{Old, New}
 use Rattle.sheet.proofs.Those.{those-ext, those-none, those-only}
@@ -132,13 +130,13 @@ listed-next held n (l ∷ ls) m (p, d) = go (eqb (l .new .round) 0) refl (listed
 -- ---- how many remain
 
 -- those of new round 0 and those that remain are all
-pub remaining-counts : (ls : List Lift) → totalBy (fieldOf (Round New)) (fieldOf Unit) 0 ls + length (remaining ls) ≡ length ls
+pub remaining-counts : (ls : List Lift) → named New 0 ls + length (remaining ls) ≡ length ls
 unfolding totalBy remaining
 remaining-counts [] = refl
 remaining-counts (l ∷ ls) = go (eqb (l .new .round) 0) (remaining-counts ls)
   where
-    go : (t : Bool) → totalBy (fieldOf (Round New)) (fieldOf Unit) 0 ls + length (remaining ls) ≡ length ls
-        → cond t 1 0 + totalBy (fieldOf (Round New)) (fieldOf Unit) 0 ls + length (cond t (remaining ls) (l ∷ remaining ls)) ≡ length (l ∷ ls)
+    go : (t : Bool) → named New 0 ls + length (remaining ls) ≡ length ls
+        → cond t 1 0 + named New 0 ls + length (cond t (remaining ls) (l ∷ remaining ls)) ≡ length (l ∷ ls)
     go true h = omega arith
     go false h = omega arith
 

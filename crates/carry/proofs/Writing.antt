@@ -1,6 +1,6 @@
 -- A walk over the lifts of a legible sheet that writes those of the next quarter: what is written and what the lifts left will give are the
 -- whole.
-use Prim.Native.Nat.{ℕ, suc, _+_, _^_, _≤_, _<_}
+use Prim.Native.Nat.{ℕ, suc, _+_, _*_, _^_, _≤_, _<_}
 use mathlib.Core.Path.{_≡_, refl, sym, ap, _∙_}
 use mathlib.Core.Bool.{Bool, true, false, cond}
 use mathlib.Core.List.{List, [], _∷_, _++_, map, append-assoc}
@@ -9,15 +9,15 @@ use lib.Dec.{eqb}
 use lib.ListN.{length, getD, set, drop, length-append, length-drop, length-map}
 use lib.Seq.{sets, sets-eq, take-at, drop-append-add, drop-drop}
 use borrow.Author.Tests.{eq-eqb, ne-eqb}
-use Rattle.laws.specs.Sum.{totalBy, indicator}
-use Rattle.sheet.specs.Sheet.{mostLifts, mostRounds, notCounted, liftKind, oldKind, newKind, heldKind, endKind, placeOf, Lift, liftOf, lifts, word, placeWord, wordsOf, written, sheetOf}
+use Rattle.laws.specs.Sum.{indicator}
+use Rattle.sheet.specs.Sheet.{mostLifts, mostRounds, notCounted, liftKind, oldKind, newKind, heldKind, endKind, Lift, liftOf, lifts, word, placeWord, wordsOf, written, sheetOf}
 use Rattle.sheet.specs.Reading.{Legible}
-use Rattle.sheet.specs.Rounds.{placeAt}
+use Rattle.sheet.specs.Rounds.{placeAt, named}
 use Rattle.sheet.specs.Reply.{onto}
-use Rattle.sheet.specs.Tables.{fieldOf, tallyOf}
+use Rattle.sheet.specs.Tables.{table, entryOf}
+use Rattle.sheet.specs.declared.Entry.{Entry}
 use Rattle.sheet.specs.declared.Side.the-variants.{New}
-use Rattle.sheet.specs.declared.Field.the-variants.{Round, Unit}
-use Rattle.sheet.proofs.Tables.{getD-tabulate}
+use Rattle.sheet.proofs.Tables.{getD-tabulate, measure-lt}
 use Rattle.sheet.proofs.Trips.{read-theorem}
 use Rattle.sheet.proofs.Walks.{Between, between-none, behind, turn, last}
 use Rattle.carry.specs.Next.{remaining, uncounted, carried, carriedOn, inTable}
@@ -27,8 +27,8 @@ use Rattle.carry.proofs.Rounds.{remaining-counts, remaining-few}
 -- ---- how many remain
 
 -- those of new round 0 and those that remain are all
-pub remaining-all : (ls : List Lift) {counts : List ℕ} → counts ≡ tallyOf New Unit ls → getD counts 0 0 + length (remaining ls) ≡ length ls
-remaining-all ls e = rw (e, getD-tabulate (mostRounds + 1) (λ r. totalBy (fieldOf (Round New)) (fieldOf Unit) r ls) 0 (omega arith)) (remaining-counts ls)
+pub remaining-all : (ls : List Lift) {counts : List ℕ} → counts ≡ table (λ r. named New r ls) → getD counts 0 0 + length (remaining ls) ≡ length ls
+remaining-all ls e = rw (e, getD-tabulate (mostRounds + 1) (λ r. named New r ls) 0 (omega arith)) (remaining-counts ls)
 
 -- the lifts that remain have room in the end word
 pub remaining-fit : {ws : List ℕ} → Legible ws → length (remaining (lifts ws)) ≤ mostLifts
@@ -36,17 +36,24 @@ remaining-fit {ws} l = omega (arith, remaining-few (lifts ws), read-theorem ws (
 
 -- ---- the words of a lift
 
--- a new measure that counts has room in a word
-pub measure-lt : (ws : List ℕ) → placeAt New (liftOf ws) .measure < 2 ^ 21
-measure-lt ws = either (eqb (placeOf (getD ws 2 0) .measure) notCounted) (placeOf (getD ws 1 0) .measure) (placeOf (getD ws 2 0) .measure) (omega arith) (omega arith)
-  where
-    either : (t : Bool) (m b : ℕ) → m < 2 ^ 21 → b < 2 ^ 21 → cond t m b < 2 ^ 21
-    either true m b h k = h
-    either false m b h k = k
+-- as the code reads the lift
+module _ (ws : List ℕ) {e : Entry} (q : e ≡ entryOf (liftOf ws)) where
+  -- its new place has room in a word
+  pub to-lt : e .to < 2 ^ 7
+  to-lt = omega (arith, ap (λ x. x .to) q)
 
--- a table read at the new round, and the number
-pub in-table : (table : List ℕ) (l : Lift) {r n : ℕ} → r ≡ l .new .round → n ≡ l .number → eqb (getD table r 0) n ≡ inTable table l
-in-table table l er en = rw (er, en)
+  pub new-lt : e .new < 2 ^ 21
+  new-lt = omega (arith, ap (λ x. x .new) q, measure-lt New ws)
+
+  pub old-word : {p w : ℕ} → p ≡ e .to * 2 ^ 21 + e .new → w ≡ word oldKind p → w ≡ placeWord oldKind (placeAt New (liftOf ws))
+  old-word ep ew = rw (ew, ep, q)
+
+  pub new-word : {p w : ℕ} → p ≡ e .to * 2 ^ 21 + notCounted → w ≡ word newKind p → w ≡ placeWord newKind (uncounted (liftOf ws))
+  new-word ep ew = rw (ew, ep, q)
+
+  -- a table read at its new round, and its number
+  pub in-table : (table : List ℕ) → eqb (getD table (e .to) 0) (e .number) ≡ inTable table (liftOf ws)
+  in-table table = rw q
 
 -- the position behind some words, and what storing them leaves
 abbrev Put : List ℕ → ℕ → List ℕ → ℕ → List ℕ → Type 0

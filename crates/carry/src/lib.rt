@@ -10,7 +10,6 @@ ghost use Rattle.sheet.specs.Tables.{Tabled};
 ghost use Rattle.sheet.specs.Reply.{onto};
 ghost use Rattle.carry.specs.Next.{remaining as remainingOf, uncounted, carriedOn, inTable};
 ghost use Rattle.carry.specs.Writing.{wordsOn};
-use sheet::Field;
 use sheet::Sheet;
 use sheet::Side;
 use sheet::Tallies;
@@ -30,9 +29,8 @@ fn old_word(sheet: &[u32], i: usize) -> u32
     requires { ⌜ i + 3 < length (now sheet) ⌝ }
     ensures { λ r. ⌜ r ≡ placeWord oldKind (placeAt Side.New (liftOf (drop i (now (sheet .entry))))) ⌝ }
 {
-    let round = sheet::value(sheet, i, Field::Round(Side::New)) as u32;
-    let measure = sheet::value(sheet, i, Field::Measure(Side::New)) as u32;
-    Sheet::word(Sheet::OLD, Sheet::place(round, measure))
+    let l = sheet::entry_at(sheet, i);
+    Sheet::word(Sheet::OLD, Sheet::place(l.to as u32, l.new as u32))
 }
 
 // The word of the new place of the lift at position i in the next quarter.
@@ -40,8 +38,11 @@ fn new_word(sheet: &[u32], i: usize) -> u32
     requires { ⌜ i + 3 < length (now sheet) ⌝ }
     ensures { λ r. ⌜ r ≡ placeWord newKind (uncounted (liftOf (drop i (now (sheet .entry))))) ⌝ }
 {
-    let round = sheet::value(sheet, i, Field::Round(Side::New)) as u32;
-    Sheet::word(Sheet::NEW, Sheet::place(round, Sheet::NOT_COUNTED as u32))
+    let l = sheet::entry_at(sheet, i);
+    Sheet::word(
+        Sheet::NEW,
+        Sheet::place(l.to as u32, Sheet::NOT_COUNTED as u32),
+    )
 }
 
 // Whether the lift at position i is chosen, from the numbers of the lifts chosen by new round.
@@ -50,9 +51,9 @@ fn is_chosen(sheet: &[u32], i: usize, chosen: &[u32; Sheet::TABLE]) -> bool
     requires { ⌜ liftOf (drop i (now sheet)) .new .round ≤ mostRounds ⌝ }
     ensures { λ r. ⌜ r ≡ inTable (now (chosen .entry)) (liftOf (drop i (now (sheet .entry)))) ⌝ }
 {
-    let round = sheet::value(sheet, i, Field::Round(Side::New)) as usize;
-    let number = sheet::value(sheet, i, Field::Number) as u32;
-    chosen[round] == number
+    let l = sheet::entry_at(sheet, i);
+    let to = l.to;
+    chosen[to] == l.number
 }
 
 // The words of the lift at position i in the next quarter, none if it is withdrawn, written at a position: the one behind them.
@@ -69,10 +70,11 @@ fn write_lift(
     ensures behind { λ r. ⌜ r ≡ at + length (wordsOn (inTable (now (chosen .entry))) (liftOf (drop i (now (sheet .entry))))) ⌝ }
     ensures written { λ _. ⌜ now (next .exit) ≡ sets (now (next .entry)) at (wordsOn (inTable (now (chosen .entry))) (liftOf (drop i (now (sheet .entry))))) ⌝ }
 {
-    if sheet::value(sheet, i, Field::Round(Side::New)) == 0 {
+    let l = sheet::entry_at(sheet, i);
+    if l.to == 0 {
         return at;
     }
-    next[at] = Sheet::word(Sheet::LIFT, sheet::value(sheet, i, Field::Number) as u32);
+    next[at] = Sheet::word(Sheet::LIFT, l.number);
     next[at + 1] = old_word(sheet, i);
     next[at + 2] = new_word(sheet, i);
     if is_chosen(sheet, i, chosen) {

@@ -13,7 +13,6 @@ ghost use Rattle.counts.specs.Counts.{numbersOf, hundreds as hundredsOf,
 ghost use Rattle.counts.specs.Law.{Takes};
 ghost use Rattle.counts.specs.Scan.{cap, clamp, digitsAt, numberAt, endingAt, lineAt, Numbers, cutAt, Located, Tells, wordWith, sheetWith};
 use sheet::Checked;
-use sheet::Field;
 use sheet::Found;
 use sheet::Judged;
 use sheet::Refusal;
@@ -289,7 +288,8 @@ fn number_lifts(sheet: &[u32], numbers: &mut [u64])
     let mut i = 0;
     let mut k = 0;
     while k < numbers.len() {
-        numbers[k] = sheet::value(sheet, i, Field::Number);
+        let l = sheet::entry_at(sheet, i);
+        numbers[k] = l.number as u64;
         i += 3 + sheet::marks(sheet, i);
         k += 1;
     }

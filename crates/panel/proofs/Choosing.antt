@@ -73,16 +73,16 @@ going-end {ls} {next = next} {r = r} g h =
     rw (← e) (record { numbers = g .by-number; outcomes = g .by-outcome; next = refl; finished = refl })
 
 -- a round's step
-module _ {ls : List Lift} {rows : List ℕ} {x : Layout} {table ws : List ℕ} {start : ℕ} {numbers outcomes : List ℕ} {next r : ℕ} (d : Lent ls rows x table)
-    (g : Going ls ws start numbers outcomes next r) (high : r ≤ mostRounds) {ds : Donors} {h : Held} (ed : ds ≡ donorsIn x table r) (eh : h ≡ marksIn x r)
+module _ {ls : List Lift} {rows : List ℕ} {x : Layout} {sums ws : List ℕ} {start : ℕ} {numbers outcomes : List ℕ} {next r : ℕ} (d : Lent ls rows x sums)
+    (g : Going ls ws start numbers outcomes next r) (high : r ≤ mostRounds) {ds : Donors} {h : Held} (ed : ds ≡ donorsIn x sums r) (eh : h ≡ marksIn x r)
     {y : Step} (ey : y ≡ stepOf (partOf x r rows) (selected ds (liftsOfRows (partOf x r rows)) h ws next)) where
-  e : y ≡ stepOf (partOf x r rows) (selected (donorsIn x table r) (liftsOfRows (partOf x r rows)) (marksIn x r) ws next)
+  e : y ≡ stepOf (partOf x r rows) (selected (donorsIn x sums r) (liftsOfRows (partOf x r rows)) (marksIn x r) ws next)
   e = rw (ed, eh) at ey
 
   -- it has no lifts: the panel goes on behind it
   idle : used ls r ≡ false → (y ≡ Passed) × Going ls ws start numbers outcomes next (r + 1)
   idle u = (
-    e ∙ step-passed d (g .low) high (selected (donorsIn x table r) (liftsOfRows (partOf x r rows)) (marksIn x r) ws next) u,
+    e ∙ step-passed d (g .low) high (selected (donorsIn x sums r) (liftsOfRows (partOf x r rows)) (marksIn x r) ws next) u,
     record { choices = g .choices; by-number = g .by-number; by-outcome = g .by-outcome; low = omega arith; same = rw (from-step (used ls) r high, u) at (g .same) },
   )
 

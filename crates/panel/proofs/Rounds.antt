@@ -26,12 +26,11 @@ use Rattle.round.specs.declared.Lift.{Lift as RoundLift}
 use Rattle.round.specs.Rows.{liftOf, lifts as liftsOfRows, Callable, rowLength}
 use Rattle.sheet.specs.Sheet.{mostLifts, mostRounds, Lift}
 use Rattle.sheet.specs.Rounds.{named, sumOf, sends, donors, donorNumber, ofRound, heldAt}
-use Rattle.sheet.specs.Tables.{tallyOf}
+use Rattle.sheet.specs.Tables.{table}
 use Rattle.rows.specs.SetBits.{noBit}
 use Rattle.rows.specs.Rows.{below, rowOf, placeIn, Laid}
 use Rattle.sheet.specs.Law.{Fit}
 use Rattle.sheet.specs.declared.Side.the-variants.{Old, New}
-use Rattle.sheet.specs.declared.Field.the-variants.{Measure}
 use Rattle.rows.specs.declared.Layout.{Layout}
 use Rattle.sheet.proofs.Tables.{getD-tabulate}
 use Rattle.rows.proofs.Placing.{below-le, below-suc, named-length}
@@ -63,11 +62,11 @@ rows-lifts whole r (l ∷ ls) = go (eqb (l .new .round) r) refl (rows-lifts whol
 -- ---- one round of a layout
 
 -- what is lent: the layout of lifts that fit, and their old sums
-pub record Lent (ls : List Lift) (rows : List ℕ) (x : Layout) (table : List ℕ) : Type 0 where
+pub record Lent (ls : List Lift) (rows : List ℕ) (x : Layout) (sums : List ℕ) : Type 0 where
   pub fit : Fit ls
   pub long : length rows ≡ rowLength * length ls
   pub laid : Laid ls rows x
-  pub sums : table ≡ tallyOf Old (Measure Old) ls
+  pub old-sums : sums ≡ table (λ t. sumOf Old t ls)
 
 -- where round r begins
 abbrev pub begins : Layout → ℕ → ℕ
@@ -92,7 +91,7 @@ numbers-are ls [] i = refl
 numbers-are ls (u ∷ us) zero = refl
 numbers-are ls (u ∷ us) (suc i) = numbers-are ls us i
 
-module _ {ls : List Lift} {rows : List ℕ} {x : Layout} {table : List ℕ} (d : Lent ls rows x table) {r : ℕ} (low : 1 ≤ r) (high : r ≤ mostRounds) where
+module _ {ls : List Lift} {rows : List ℕ} {x : Layout} {sums : List ℕ} (d : Lent ls rows x sums) {r : ℕ} (low : 1 ≤ r) (high : r ≤ mostRounds) where
   begin : begins x r ≡ below r ls
   begin = ap (λ t. getD t r 0) (d .laid .starts) ∙ getD-tabulate (mostRounds + 2) (λ t. below t ls) r (omega arith)
 
@@ -137,8 +136,8 @@ module _ {ls : List Lift} {rows : List ℕ} {x : Layout} {table : List ℕ} (d :
   unfolding liftsOfRows liftsOf
   lifts-are = rw part-pieces (rows-lifts ls r ls)
 
-  sum-is : (t : ℕ) → t ≤ mostRounds → getD table t 0 ≡ sumOf Old t ls
-  sum-is t h = ap (λ s. getD s t 0) (d .sums) ∙ getD-tabulate (mostRounds + 1) _ t (omega arith)
+  sum-is : (t : ℕ) → t ≤ mostRounds → getD sums t 0 ≡ sumOf Old t ls
+  sum-is t h = ap (λ s. getD s t 0) (d .old-sums) ∙ getD-tabulate (mostRounds + 1) _ t (omega arith)
 
   -- the layout's two numbers tell its donors
   donors-told : donorsAt x r ≡ donors r ls
@@ -149,11 +148,11 @@ module _ {ls : List Lift} {rows : List ℕ} {x : Layout} {table : List ℕ} (d :
       go (t ∷ []) (one s l h) = rw (le-ltb mostRounds t h)
       go (t ∷ u ∷ []) (two s v l m h) = rw (le-ltb mostRounds t (omega arith), le-ltb mostRounds u h)
 
-  pub donors-are : donorsIn x table r ≡ donorsOf r ls
+  pub donors-are : donorsIn x sums r ≡ donorsOf r ls
   unfolding donorsOf
   donors-are = rw donors-told (go (donors r ls) (senders (d .fit) low high))
     where
-      go : (ds : List ℕ) → Senders r ls ds → withSums (λ t. getD table t 0) ds ≡ withSums (λ t. sumOf Old t ls) ds
+      go : (ds : List ℕ) → Senders r ls ds → withSums (λ t. getD sums t 0) ds ≡ withSums (λ t. sumOf Old t ls) ds
       go [] none = refl
       go (t ∷ []) (one s l h) = ap One (sum-is t h)
       go (t ∷ u ∷ []) (two s v l m h) = ap₂ Two (sum-is t (omega arith)) (sum-is u h)
@@ -173,7 +172,7 @@ module _ {ls : List Lift} {rows : List ℕ} {x : Layout} {table : List ℕ} (d :
       go (t ∷ []) (one s l h) = ap (λ y. heldOf y elsewhere) (seat-is t s l h)
       go (t ∷ u ∷ []) (two s v l m h) = ap₂ heldOf (seat-is t s l (omega arith)) (seat-is u v (omega arith) h)
 
-  pub callable : {ds : Donors} {h : Held} → ds ≡ donorsIn x table r → h ≡ marksIn x r → 0 < length (partOf x r rows) → Callable ds (liftsOfRows (partOf x r rows)) h
+  pub callable : {ds : Donors} {h : Held} → ds ≡ donorsIn x sums r → h ≡ marksIn x r → 0 < length (partOf x r rows) → Callable ds (liftsOfRows (partOf x r rows)) h
   callable e f h =
       rw (e, f, donors-are, lifts-are, marks-are)
       (record { fitting = round-fits (d .fit) low high (omega (arith, part-length)); bounded = round-bounded (d .fit) low high; stands = round-stands (d .fit) low high })
@@ -183,7 +182,7 @@ module _ {ls : List Lift} {rows : List ℕ} {x : Layout} {table : List ℕ} (d :
   step-passed s e = rw (eq-eqb (length (partOf x r rows)) 0 (omega (arith, part-length, ltb-false 0 (named New r ls) e)))
 
   pub step-used : (ws : List ℕ) (next : ℕ) → ltb 0 (named New r ls) ≡ true
-      → stepOf (partOf x r rows) (selected (donorsIn x table r) (liftsOfRows (partOf x r rows)) (marksIn x r) ws next)
+      → stepOf (partOf x r rows) (selected (donorsIn x sums r) (liftsOfRows (partOf x r rows)) (marksIn x r) ws next)
       ≡ chosenOf (partOf x r rows) (answer (heldIn r ls) (run largest ws next (planOf r ls)))
   unfolding planOf
   step-used ws next e =

@@ -10,14 +10,13 @@ use lib.Dec.{eqb}
 use lib.ListN.{length, getD, set, drop, replicate, length-set, length-replicate}
 use lib.Seq.{getD-set-same, getD-set-other, ext-getD}
 use borrow.Author.Tests.{eq-eqb, eqb-true, eqb-false}
-use Rattle.laws.specs.Sum.{totalBy, indicator}
-use Rattle.sheet.specs.Sheet.{mostRounds, notCounted, kind, liftKind, heldKind, placeOf, Lift, liftOf, lifts}
+use Rattle.laws.specs.Sum.{totalBy}
+use Rattle.sheet.specs.Sheet.{mostRounds, notCounted, kind, liftKind, placeOf, Lift, liftOf, lifts}
 use Rattle.sheet.specs.Reading.{Legible}
-use Rattle.sheet.specs.Tables.{tabulate, fieldOf}
+use Rattle.sheet.specs.Rounds.{placeAt}
+use Rattle.sheet.specs.Tables.{tabulate}
 use Rattle.sheet.specs.declared.Side.{Side}
 use Rattle.sheet.specs.declared.Side.the-variants.{Old, New}
-use Rattle.sheet.specs.declared.Field.{Field}
-use Rattle.sheet.specs.declared.Field.the-variants.{Number, Round, Measure, Held, Unit}
 use Rattle.sheet.proofs.Walks.{Between, between-none, behind, turn, last}
 
 -- ---- tables
@@ -105,56 +104,45 @@ module _ {op : ℕ → ℕ → ℕ} {key value : Lift → ℕ} {whole : ℕ → 
         (λ r p. sym (f .right _) ∙ ap (op (getD tbl r 0)) (sym (ap (whole r) (last (g .between) h) ∙ f .none r)) ∙ g .same r)
 
 -- sums
-pub adds : (side : Side) (field : Field) → Folds _+_ (fieldOf (Round side)) (fieldOf field) (λ r ls. totalBy (fieldOf (Round side)) (fieldOf field) r ls)
+pub adds : (key value : Lift → ℕ) → Folds _+_ key value (λ r ls. totalBy key value r ls)
 unfolding totalBy
-adds side field = record { assoc = add-assoc; left = zero-add; right = add-zero; none = λ r. refl; some = λ r l ls h. refl }
+adds key value = record { assoc = add-assoc; left = zero-add; right = add-zero; none = λ r. refl; some = λ r l ls h. refl }
 
--- the field of the lifts before position i is added up in a table
-abbrev pub Tallied : Side → Field → List ℕ → List ℕ → ℕ → Type 0
-Tallied side field = Gathered (mostRounds + 1) _+_ (λ r ls. totalBy (fieldOf (Round side)) (fieldOf field) r ls)
+-- the values of the lifts before position i are added up in a table
+abbrev pub Tallied : (key value : Lift → ℕ) → List ℕ → List ℕ → ℕ → Type 0
+Tallied key value = Gathered (mostRounds + 1) _+_ (λ r ls. totalBy key value r ls)
 
--- no field is above 2^28
-pub field-le : (field : Field) (ws : List ℕ) → fieldOf field (liftOf ws) ≤ 2 ^ 28
-field-le Number ws = omega arith
-field-le (Round Old) ws = omega arith
-field-le (Round New) ws = omega arith
-field-le (Measure Old) ws = omega arith
-field-le (Measure New) ws = either (eqb (placeOf (getD ws 2 0) .measure) notCounted) (placeOf (getD ws 1 0) .measure) (placeOf (getD ws 2 0) .measure) (omega arith) (omega arith)
+-- a measure that counts has room in a word
+pub measure-lt : (side : Side) (ws : List ℕ) → placeAt side (liftOf ws) .measure < 2 ^ 21
+measure-lt Old ws = omega arith
+measure-lt New ws = either (eqb (placeOf (getD ws 2 0) .measure) notCounted) (placeOf (getD ws 1 0) .measure) (placeOf (getD ws 2 0) .measure) (omega arith) (omega arith)
   where
-    either : (t : Bool) (m b : ℕ) → m ≤ 2 ^ 28 → b ≤ 2 ^ 28 → cond t m b ≤ 2 ^ 28
+    either : (t : Bool) (m b : ℕ) → m < 2 ^ 21 → b < 2 ^ 21 → cond t m b < 2 ^ 21
     either true m b h k = h
     either false m b h k = k
-field-le Held ws = flag (eqb (kind (getD ws 3 0)) heldKind)
-  where
-    flag : (t : Bool) → indicator t ≤ 2 ^ 28
-    flag true = omega arith
-    flag false = omega arith
-field-le Unit ws = omega arith
 
 cond-le : (t : Bool) (v : ℕ) → cond t v 0 ≤ v
 cond-le true v = omega arith
 cond-le false v = omega arith
 
--- so no sum is above 2^28 for each word
-pub tally-le : (side : Side) (field : Field) (r : ℕ) (ws : List ℕ) → totalBy (fieldOf (Round side)) (fieldOf field) r (lifts ws) ≤ length ws * 2 ^ 28
-unfolding totalBy lifts
-tally-le side field r [] = omega arith
-tally-le side field r (w ∷ ws) = go (eqb (kind w) liftKind) (tally-le side field r ws)
-  where
-    sum : List Lift → ℕ
-    sum ls = totalBy (fieldOf (Round side)) (fieldOf field) r ls
+module _ (key value : Lift → ℕ) (small : (ws : List ℕ) → value (liftOf ws) < 2 ^ 21) where
+  -- no sum of such values is above 2^21 for each word
+  tally-le : (r : ℕ) (ws : List ℕ) → totalBy key value r (lifts ws) ≤ length ws * 2 ^ 21
+  unfolding totalBy lifts
+  tally-le r [] = omega arith
+  tally-le r (w ∷ ws) = go (eqb (kind w) liftKind) (tally-le r ws)
+    where
+      go : (t : Bool) → totalBy key value r (lifts ws) ≤ length ws * 2 ^ 21
+          → totalBy key value r (cond t (liftOf (w ∷ ws) ∷ lifts ws) (lifts ws)) ≤ suc (length ws) * 2 ^ 21
+      go true h = omega (arith, small (w ∷ ws), cond-le (eqb (key (liftOf (w ∷ ws))) r) (value (liftOf (w ∷ ws))))
+      go false h = omega arith
 
-    go : (t : Bool) → sum (lifts ws) ≤ length ws * 2 ^ 28 → sum (cond t (liftOf (w ∷ ws) ∷ lifts ws) (lifts ws)) ≤ suc (length ws) * 2 ^ 28
-    go true h =
-        omega (arith, field-le field (w ∷ ws), cond-le (eqb (fieldOf (Round side) (liftOf (w ∷ ws))) r) (fieldOf field (liftOf (w ∷ ws))))
-    go false h = omega arith
-
--- there is room for what a turn adds
-pub tally-room : (side : Side) (field : Field) {ws tbl : List ℕ} {i k v : ℕ} → Legible ws
-    → Tallied side field ws tbl i → i + 1 < length ws → k ≡ fieldOf (Round side) (liftOf (drop i ws)) → v ≡ fieldOf field (liftOf (drop i ws)) → getD tbl k 0 + v < 2 ^ 64
-unfolding totalBy
-tally-room side field {ws} {tbl} {i} {k} {v} l g h ek ev =
-    let t = turn (g .between) h in
-    let e : totalBy (fieldOf (Round side)) (fieldOf field) k (lifts (drop i ws)) ≡ v + totalBy (fieldOf (Round side)) (fieldOf field) k (lifts (drop (behind ws i) ws)) =
-    rw (t .here, ← ek, ← ev, eq-eqb k k refl) in
-    omega (arith, e, g .same k, tally-le side field k ws, l .short)
+  -- so there is room for what a turn adds
+  pub tally-room : {ws tbl : List ℕ} {i k v : ℕ} → Legible ws → Tallied key value ws tbl i → i + 1 < length ws → k ≡ key (liftOf (drop i ws))
+      → v ≡ value (liftOf (drop i ws)) → getD tbl k 0 + v < 2 ^ 64
+  unfolding totalBy
+  tally-room {ws} {tbl} {i} {k} {v} l g h ek ev =
+      let t = turn (g .between) h in
+      let e : totalBy key value k (lifts (drop i ws)) ≡ v + totalBy key value k (lifts (drop (behind ws i) ws)) =
+      rw (t .here, ← ek, ← ev, eq-eqb k k refl) in
+      omega (arith, e, g .same k, tally-le k ws, l .short)

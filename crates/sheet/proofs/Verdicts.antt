@@ -11,13 +11,12 @@ use lib.ListN.{length, getD}
 use borrow.Author.Tests.{eq-eqb, ne-eqb, lt-ltb, le-ltb, ltb-false}
 use Rattle.sheet.specs.Sheet.{mostRounds, longest, Lift, lifts, sheetOf}
 use Rattle.sheet.specs.Reading.{Numbered, numbered, Reading, faulty, sound, start, reading, ofWords, Legible}
-use Rattle.sheet.specs.Rounds.{rounds, donors, inUse}
+use Rattle.sheet.specs.Rounds.{rounds, named, inUse, sumOf, heldIn, donors}
 use Rattle.sheet.specs.Refusal.{Verdict, refused, fits, unheld, oversize, unmeasured, crowded, firstRound, ofRounds, unlessFaulty, verdict, refusal, told}
-use Rattle.sheet.specs.Tables.{table, tallyOf, donorsOf, donorCounts, breaks, first}
+use Rattle.sheet.specs.Tables.{table, donorsOf, donorCounts, breaks, first}
 use Rattle.sheet.specs.Law.{Fit, Fitting, DecidedTheorem, Answered}
 use Rattle.sheet.specs.declared.Side.{Side}
 use Rattle.sheet.specs.declared.Side.the-variants.{Old, New}
-use Rattle.sheet.specs.declared.Field.the-variants.{Measure, Held, Unit}
 use Rattle.sheet.specs.declared.Rule.the-variants.{Unheld, Oversize, Unmeasured, Crowded}
 use Rattle.sheet.specs.declared.Refusal.{Refusal}
 use Rattle.sheet.specs.declared.Checked.the-variants.{Refused}
@@ -41,18 +40,18 @@ tested test f g ea eb =
 
 -- what the code's search finds is the first round that a refusal meets
 module _ (ls : List Lift) {a : List ℕ} where
-  pub found-unheld : {b : List ℕ} {x : Found} → a ≡ tallyOf Old Unit ls → b ≡ tallyOf Old Held ls → x ≡ first (rounds (λ t. breaks Unheld (getD a t 0) (getD b t 0))) → x ≡ first (rounds (unheld ls))
+  pub found-unheld : {b : List ℕ} {x : Found} → a ≡ table (λ r. named Old r ls) → b ≡ table (λ r. heldIn r ls) → x ≡ first (rounds (λ t. breaks Unheld (getD a t 0) (getD b t 0))) → x ≡ first (rounds (unheld ls))
   found-unheld ea eb e = e ∙ ap first (tested (breaks Unheld) _ _ ea eb)
 
-  pub found-oversize : {x : Found} (side : Side) → a ≡ tallyOf side (Measure side) ls → x ≡ first (rounds (λ t. breaks Oversize (getD a t 0) (getD a t 0)))
+  pub found-oversize : {x : Found} (side : Side) → a ≡ table (λ r. sumOf side r ls) → x ≡ first (rounds (λ t. breaks Oversize (getD a t 0) (getD a t 0)))
       → x ≡ first (rounds (oversize side ls))
   found-oversize side ea e = e ∙ ap first (tested (breaks Oversize) _ _ ea ea)
 
-  pub found-unmeasured : {b : List ℕ} {x : Found} → a ≡ tallyOf New Unit ls → b ≡ tallyOf New (Measure New) ls → x ≡ first (rounds (λ t. breaks Unmeasured (getD a t 0) (getD b t 0)))
+  pub found-unmeasured : {b : List ℕ} {x : Found} → a ≡ table (λ r. named New r ls) → b ≡ table (λ r. sumOf New r ls) → x ≡ first (rounds (λ t. breaks Unmeasured (getD a t 0) (getD b t 0)))
       → x ≡ first (rounds (unmeasured ls))
   found-unmeasured ea eb e = e ∙ ap first (tested (breaks Unmeasured) _ _ ea eb)
 
-  pub in-use : {n : ℕ} → a ≡ tallyOf New Unit ls → n ≡ length (rounds (λ t. ltb 0 (getD a t 0))) → n ≡ length (inUse New ls)
+  pub in-use : {n : ℕ} → a ≡ table (λ r. named New r ls) → n ≡ length (rounds (λ t. ltb 0 (getD a t 0))) → n ≡ length (inUse New ls)
   in-use ea e = e ∙ ap length (tested (λ x y. ltb 0 x) _ _ ea ea)
 
 pub found-crowded : {ws words counts : List ℕ} {x : Found} → Legible ws → words ≡ donorsOf (lifts ws) → counts ≡ donorCounts words

@@ -1,4 +1,4 @@
--- Tables by round, and the fields of lifts, as the code gathers them.
+-- A lift and the tables by round, as the code reads and gathers them.
 use Prim.Native.Nat.{ℕ, zero, suc, _+_, _*_, _/_, _%_}
 use mathlib.Core.Bool.{Bool, not, _&&_}
 use mathlib.Core.Path.{_≡_}
@@ -6,13 +6,10 @@ use mathlib.Core.List.{List, [], _∷_}
 use lib.Dec.{eqb, leb, ltb}
 use lib.ListN.{getD}
 use lib.Count.{ones}
-use Rattle.laws.specs.Sum.{totalBy, indicator}
-use Rattle.sheet.specs.Sheet.{mostRounds, largestSum, Place, Lift}
-use Rattle.sheet.specs.Rounds.{placeAt, sends}
-use Rattle.sheet.specs.declared.Side.{Side}
+use Rattle.laws.specs.Sum.{indicator}
+use Rattle.sheet.specs.Sheet.{mostRounds, largestSum, Lift}
+use Rattle.sheet.specs.Rounds.{placeAt, named, sumOf, heldIn, sends}
 use Rattle.sheet.specs.declared.Side.the-variants.{Old, New}
-use Rattle.sheet.specs.declared.Field.{Field}
-use Rattle.sheet.specs.declared.Field.the-variants.{Number, Round, Measure, Held, Unit}
 use Rattle.sheet.specs.declared.Entry.{Entry}
 use Rattle.sheet.specs.declared.Tallies.{Tallies}
 use Rattle.sheet.specs.declared.Rule.{Rule}
@@ -29,19 +26,6 @@ tabulate (suc n) f = f 0 ∷ tabulate n (λ i. f (suc i))
 abbrev pub table : (ℕ → ℕ) → List ℕ
 table f = tabulate (mostRounds + 1) f
 
--- a lift's old or new place, as it is written
-abbrev pub writtenAt : Side → Lift → Place
-writtenAt Old l = l .old
-writtenAt New l = l .new
-
--- a lift's number, round, measure, 1 if it is held, and 1
-abbrev pub fieldOf : Field → Lift → ℕ
-fieldOf Number l = l .number
-fieldOf (Round side) l = placeAt side l .round
-fieldOf (Measure side) l = placeAt side l .measure
-fieldOf Held l = indicator (l .held)
-fieldOf Unit l = 1
-
 -- a lift as the code reads it
 abbrev pub entryOf : Lift → Entry
 entryOf l =
@@ -53,10 +37,6 @@ entryOf l =
       new = placeAt New l .measure;
       held = l .held;
     }
-
--- for each old or new round, the sum of a field over its lifts
-abbrev pub tallyOf : Side → Field → List Lift → List ℕ
-tallyOf side field ls = table (λ r. totalBy (fieldOf (Round side)) (fieldOf field) r ls)
 
 -- the number of n bits in which bit t is set where t passes a test
 unfoldable pub bits : ℕ → (ℕ → Bool) → ℕ
@@ -77,11 +57,11 @@ donorCounts words = table (λ r. ones (getD words (2 * r) 0) + ones (getD words 
 
 -- the tables of some lifts
 pub record Tabled (ls : List Lift) (t : Tallies) : Type 0 where
-  pub old-lifts : t .«old_lifts» ≡ tallyOf Old Unit ls
-  pub held : t .held ≡ tallyOf Old Held ls
-  pub old-sums : t .«old_sums» ≡ tallyOf Old (Measure Old) ls
-  pub new-lifts : t .«new_lifts» ≡ tallyOf New Unit ls
-  pub new-sums : t .«new_sums» ≡ tallyOf New (Measure New) ls
+  pub old-lifts : t .«old_lifts» ≡ table (λ r. named Old r ls)
+  pub held : t .held ≡ table (λ r. heldIn r ls)
+  pub old-sums : t .«old_sums» ≡ table (λ r. sumOf Old r ls)
+  pub new-lifts : t .«new_lifts» ≡ table (λ r. named New r ls)
+  pub new-sums : t .«new_sums» ≡ table (λ r. sumOf New r ls)
   pub donors : t .donors ≡ donorsOf ls
 
 -- the tests of the refusals of rounds, on two numbers of a round: how many lifts and how many held, the sum, how many lifts and the

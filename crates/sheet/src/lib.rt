@@ -9,9 +9,9 @@ ghost use lib.ListN.{length, getD, drop};
 ghost use Rattle.laws.specs.Sum.{indicator};
 ghost use Rattle.sheet.specs.Sheet.{largestSum, longest, kind as kindOf, payload as payloadOf, placeOf, liftOf, lifts, word as wordOf};
 ghost use Rattle.sheet.specs.Reading.{next as nextOf, follows as followsOf, misnumbered as misnumberedOf, isPlace, tooLarge as tooLargeOf, beyond as beyondOf, misplaced as misplacedOf, uncountedNewcomer as uncountedNewcomerOf, miscounted as miscountedOf, mismarked as mismarkedOf, fault, unless, sound, reading, ofWords, Legible};
-ghost use Rattle.sheet.specs.Rounds.{rounds, filledIn as filledInOf, placeAt};
+ghost use Rattle.sheet.specs.Rounds.{rounds, filledIn as filledInOf};
 ghost use Rattle.sheet.specs.Refusal.{ofRounds, verdict, refusal, told, toldOfWords};
-ghost use Rattle.sheet.specs.Tables.{writtenAt, fieldOf, entryOf, bitOf, donorCounts, Tabled, breaks as breaksOf, first as firstOf};
+ghost use Rattle.sheet.specs.Tables.{entryOf, bitOf, donorCounts, Tabled, breaks as breaksOf, first as firstOf};
 ghost use Rattle.sheet.specs.Law.{Answered};
 
 // A sheet that fits: how many lifts and how many new rounds it has.
@@ -170,15 +170,6 @@ pub enum Judged {
 pub enum Side {
     Old,
     New,
-}
-
-// What is told of a lift; `Held` is 1 for a held lift, else 0, and `Unit` is 1 for every lift.
-pub enum Field {
-    Number,
-    Round(Side),
-    Measure(Side),
-    Held,
-    Unit,
 }
 
 // The refusals of a round, each from two numbers: how many lifts and how many held, the sum, how many lifts and the sum, how many
@@ -470,28 +461,6 @@ pub fn read(sheet: &[u32]) -> Judged
 
 // ---- the lifts of a legible sheet
 
-// How many held words the lift at position i has.
-pub fn marks(sheet: &[u32], i: usize) -> usize
-    requires { ⌜ i + 3 < length (now sheet) ⌝ }
-    ensures { λ r. ⌜ r ≡ indicator (liftOf (drop i (now (sheet .entry))) .held) ⌝ }
-{
-    if Sheet::kind(sheet[i + 3]) == Sheet::HELD {
-        return 1;
-    }
-    0
-}
-
-// The word of the lift at position i that tells one of its places.
-fn place(sheet: &[u32], i: usize, side: Side) -> u32
-    requires { ⌜ i + 3 < length (now sheet) ⌝ }
-    ensures { λ r. ⌜ placeOf r ≡ writtenAt side (liftOf (drop i (now (sheet .entry)))) ⌝ }
-{
-    match side {
-        Side::Old => sheet[i + 1],
-        Side::New => sheet[i + 2],
-    }
-}
-
 // The new measure that counts, from both as they are written.
 fn filled_in(old: u64, new: u64) -> u64
     ensures { λ r. ⌜ r ≡ filledInOf old new ⌝ }
@@ -500,29 +469,6 @@ fn filled_in(old: u64, new: u64) -> u64
         return old;
     }
     new
-}
-
-// The old measure of the lift at position i, or the new one that counts; an old measure filled in is the same.
-fn measure_at(sheet: &[u32], i: usize, side: Side) -> u64
-    requires { ⌜ i + 3 < length (now sheet) ⌝ }
-    ensures { λ r. ⌜ r ≡ placeAt side (liftOf (drop i (now (sheet .entry)))) .measure ⌝ }
-{
-    let written = Sheet::measure(place(sheet, i, side));
-    filled_in(Sheet::measure(sheet[i + 1]), written)
-}
-
-// A field of the lift at position i.
-pub fn value(sheet: &[u32], i: usize, field: Field) -> u64
-    requires { ⌜ i + 3 < length (now sheet) ⌝ }
-    ensures { λ r. ⌜ r ≡ fieldOf field (liftOf (drop i (now (sheet .entry)))) ⌝ }
-{
-    match field {
-        Field::Number => Sheet::payload(sheet[i]) as u64,
-        Field::Round(side) => Sheet::round(place(sheet, i, side)) as u64,
-        Field::Measure(side) => measure_at(sheet, i, side),
-        Field::Held => marks(sheet, i) as u64,
-        Field::Unit => 1,
-    }
 }
 
 // The lift at position i.
@@ -541,6 +487,18 @@ pub fn entry_at(sheet: &[u32], i: usize) -> Entry
         new: filled_in(measure, Sheet::measure(new)),
         held: Sheet::kind(sheet[i + 3]) == Sheet::HELD,
     }
+}
+
+// How many held words the lift at position i has.
+pub fn marks(sheet: &[u32], i: usize) -> usize
+    requires { ⌜ i + 3 < length (now sheet) ⌝ }
+    ensures { λ r. ⌜ r ≡ indicator (liftOf (drop i (now (sheet .entry))) .held) ⌝ }
+{
+    let l = entry_at(sheet, i);
+    if l.held {
+        return 1;
+    }
+    0
 }
 
 // The bit of an old round in its word, for a lift of some measure.

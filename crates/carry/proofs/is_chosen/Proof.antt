@@ -1,36 +1,29 @@
 -- `carry::is_chosen` meets its contract: the number in the table at the lift's new round is its own. Assumes nothing.
+use native.Mathlib.Omega.{arith}
+use Prim.Native.Nat.{ℕ}
+use mathlib.Core.List.{List}
 use lib.ListN.{drop}
-use Rattle.sheet.specs.Sheet.{liftOf}
+use mathlib.Core.Path.{ap}
 use Rattle.carry.proofs.Writing.{in-table}
 use borrow.Author.Needs.{needs}
 use Rattle.carry.proofs.is_chosen.Statement.{statement}
 use Rattle.carry.proofs.is_chosen.Tie as tie
 
-value-requires : tie.Need-value-requires
-value-requires c κs = search needs
+-- the words from the lift on
+abbrev words : tie.Start → List ℕ
+words c = drop (c .args .i) (c .args .sheet .now)
 
-value-requires-2 : tie.Need-value-requires-2
-value-requires-2 c κs = search needs
-
-cast-number : tie.Need-cast-number
-cast-number c = search needs
+entry-at-requires : tie.Need-entry-at-requires
+entry-at-requires c κs = search needs
 
 mul-result : tie.Need-mul-result
-mul-result c = search needs
+mul-result c = omega (arith, ap (λ e. e .to) (c .entry-at .ensures), c .before .before .pre .1)
 
 element-copy-out-result : tie.Need-element-copy-out-result
-element-copy-out-result c = search needs
+element-copy-out-result c = omega (arith, ap (λ e. e .to) (c .entry-at .ensures), c .before .before .pre .1)
 
 returns : tie.Need-returns
-returns c = let a = c .before .before .before .before .args in in-table (a .chosen .now) (liftOf (drop (a .i) (a .sheet .now))) (c .before .before .value .ensures) (c .before .value2 .ensures)
+returns c = in-table (words (c .before .before .before .before)) (c .before .before .entry-at .ensures) (c .before .before .before .before .args .chosen .now)
 
 pub is-chosen-spec : {M : Type 1} → statement M
-is-chosen-spec =
-    tie.close
-    (tie.spec
-    value-requires
-    value-requires-2
-    cast-number
-    mul-result
-    element-copy-out-result
-    returns)
+is-chosen-spec = tie.close (tie.spec entry-at-requires mul-result element-copy-out-result returns)

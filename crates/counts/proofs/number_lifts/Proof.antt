@@ -1,6 +1,6 @@
 -- `counts::number_lifts` meets its contract: the numbers so far and those of the lifts left are all numbers. Assumes nothing.
 use Prim.Native.Nat.{_-_}
-use mathlib.Core.Path.{refl, sym, _∙_}
+use mathlib.Core.Path.{refl, sym, ap, _∙_}
 use lib.ListN.{length}
 use Rattle.sheet.specs.Sheet.{lifts}
 use Rattle.sheet.proofs.Walks.{moved}
@@ -19,8 +19,11 @@ abbrev μ-loop : tie.MeasureT-loop
 loop-holds : tie.Need-loop-holds Inv-loop μ-loop
 loop-holds c = numbering-none (c .before .before .pre .0) (c .before .before .pre .1)
 
-value-requires : tie.Need-value-requires Inv-loop μ-loop
-value-requires c κs = numbering-at (c .before .loop .inv) (c .loop-test .taken) .room
+entry-at-requires : tie.Need-entry-at-requires Inv-loop μ-loop
+entry-at-requires c κs = numbering-at (c .before .loop .inv) (c .loop-test .taken) .room
+
+cast-numbers : tie.Need-cast-numbers Inv-loop μ-loop
+cast-numbers c = search needs
 
 mul-numbers : tie.Need-mul-numbers Inv-loop μ-loop
 mul-numbers c = search needs
@@ -29,22 +32,22 @@ slice-write-numbers : tie.Need-slice-write-numbers Inv-loop μ-loop
 slice-write-numbers c = search needs
 
 marks-requires : tie.Need-marks-requires Inv-loop μ-loop
-marks-requires c κs = numbering-at (c .before .before .loop .inv) (c .before .loop-test .taken) .room
+marks-requires c κs = numbering-at (c .before .before .before .loop .inv) (c .before .before .loop-test .taken) .room
 
 add-i : tie.Need-add-i Inv-loop μ-loop
-add-i c = omega (arith, moved (numbering-at (c .before .before .before .loop .inv) (c .before .before .loop-test .taken)) (c .marks .ensures))
+add-i c = omega (arith, moved (numbering-at (c .before .before .before .before .loop .inv) (c .before .before .before .loop-test .taken)) (c .marks .ensures))
 
 add-i-2 : tie.Need-add-i-2 Inv-loop μ-loop
-add-i-2 c = omega (arith, moved (numbering-at (c .before .before .before .loop .inv) (c .before .before .loop-test .taken)) (c .marks .ensures))
+add-i-2 c = omega (arith, moved (numbering-at (c .before .before .before .before .loop .inv) (c .before .before .before .loop-test .taken)) (c .marks .ensures))
 
 add-k : tie.Need-add-k Inv-loop μ-loop
 add-k c = search needs
 
 loop-less : tie.Need-loop-less Inv-loop μ-loop
-loop-less c = omega (arith, c .before .before .before .loop .inv .long, c .before .before .loop-test .taken)
+loop-less c = omega (arith, c .before .before .before .before .loop .inv .long, c .before .before .before .loop-test .taken)
 
 loop-again : tie.Need-loop-again Inv-loop μ-loop
-loop-again c = numbering-turn (c .before .before .before .loop .inv) (c .before .before .loop-test .taken) (c .before .value .ensures) (c .marks .ensures) refl
+loop-again c = numbering-turn (c .before .before .before .before .loop .inv) (c .before .before .before .loop-test .taken) (ap (λ l. l .number) (c .before .before .entry-at .ensures)) (c .marks .ensures) refl
 
 same-length : tie.Need-same-length Inv-loop μ-loop
 same-length c = c .before .loop .inv .long ∙ sym (c .before .before .before .before .pre .1)
@@ -59,7 +62,8 @@ number-lifts-spec =
     Inv-loop
     μ-loop
     loop-holds
-    value-requires
+    entry-at-requires
+    cast-numbers
     mul-numbers
     slice-write-numbers
     marks-requires

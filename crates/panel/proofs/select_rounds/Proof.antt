@@ -29,7 +29,7 @@ lay-out-requires c κs = c .before .before .before .before .pre
 loop-holds : tie.Need-loop-holds Inv-loop μ-loop
 loop-holds c =
     let p = c .before .before .before .before .before .before .before .pre in
-    (record { fit = fit (p .0); long = omega (arith, c .before .rows .given, p .1 .1); laid = c .before .before .lay-out .ensures; sums = p .1 .0 .old-sums }, going-none _ _ _)
+    (record { fit = fit (p .0); long = omega (arith, c .before .rows .given, p .1 .1); laid = c .before .before .lay-out .ensures; old-sums = p .1 .0 .old-sums }, going-none _ _ _)
 
 mul-a : tie.Need-mul-a Inv-loop μ-loop
 mul-a c = search needs
