@@ -9,6 +9,9 @@ use Rattle.laws.specs.Sum.{total}
 use Rattle.laws.specs.Interval.{pick}
 use Rattle.laws.specs.Plan.{Plan, done, draw}
 use Rattle.laws.specs.Pieces.{pieces}
+use Rattle.draw.specs.Draw.{largest, drawAt}
+use Rattle.draw.specs.declared.Drawn.{Drawn}
+use Rattle.draw.specs.declared.Drawn.the-variants.{Value, Short as Ended}
 use Rattle.round.specs.Round.{S, U, Weight, growth, G, Fitting}
 use Rattle.round.specs.Choice.{Selection, selection}
 use Rattle.round.specs.declared.Donors.{Donors}
@@ -16,6 +19,8 @@ use Rattle.round.specs.declared.Donors.the-variants.{None, One, Two}
 use Rattle.round.specs.declared.Held.{Held}
 use Rattle.round.specs.declared.Held.the-variants.{Neither, Single, Both}
 use Rattle.round.specs.declared.Lift.{Lift}
+use Rattle.round.specs.declared.Preliminary.{Preliminary}
+use Rattle.round.specs.declared.Preliminary.the-variants.{None as NoLift, At, Short}
 use Rattle.round.specs.declared.Scale.{Scale}
 use Rattle.round.specs.declared.Sums.{Sums}
 
@@ -124,3 +129,20 @@ blockEnd a n = cond (ltb (n - a) blockLength) n (a + blockLength)
 -- the new measures
 unfoldable pub drawGrowth : Bool → List Weight → Plan Selection
 drawGrowth dropped ws = draw (G ws) (λ q. done (selection (pick (map growth ws) q) dropped))
+
+-- where both donors' lifts are held here there is something to draw below
+abbrev pub Contested : Scale → Held → Type 0
+Contested s Neither = Unit {0}
+Contested s (Single i) = Unit {0}
+Contested s (Both i j) = 1 ≤ s .new
+
+-- of two held lifts here, the one that a draw says
+abbrev pub oneOf : Scale → (i j : ℕ) → Drawn → Preliminary
+oneOf s i j (Value v next) = At (cond (ltb v (s .odds)) i j) next
+oneOf s i j Ended = Short
+
+-- the preliminary lift by the multipliers
+abbrev pub preliminaryOf : Scale → Held → List ℕ → ℕ → Preliminary
+preliminaryOf s Neither ws at = NoLift
+preliminaryOf s (Single i) ws at = At i at
+preliminaryOf s (Both i j) ws at = oneOf s i j (drawAt largest ws at (s .new))

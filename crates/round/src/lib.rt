@@ -10,7 +10,7 @@ ghost use Rattle.draw.specs.Draw.{largest};
 ghost use Rattle.draw.specs.Run.{run};
 ghost use Rattle.round.specs.Round.{liftAt, sent as sentOf, growth, G, Fitting};
 ghost use Rattle.round.specs.Choice.{keyfitz, isHeld, outcome as outcomeOf, selection, answer, selected};
-ghost use Rattle.round.specs.Rows.{lifts, Bounded, Callable, sumsOf, Small, multiplierOf, scaled, scaleOf, Room, LiftRoom, Balanced, blockLength, blockEnd, drawGrowth};
+ghost use Rattle.round.specs.Rows.{lifts, Bounded, Callable, sumsOf, Small, multiplierOf, scaled, scaleOf, Room, LiftRoom, Balanced, blockLength, blockEnd, drawGrowth, Contested, preliminaryOf};
 use draw::Drawn;
 
 // The donors of a round, with their whole old sums T.
@@ -30,6 +30,13 @@ pub enum Held {
 // The place of the chosen lift in the round, the document's outcome, and the position behind the last word read; or the words ended.
 pub enum Selected {
     At(usize, u32, usize),
+    Short,
+}
+
+// The preliminary lift: none; its place, and the position behind the last word read; or the words ended.
+enum Preliminary {
+    None,
+    At(usize, usize),
     Short,
 }
 
@@ -360,29 +367,23 @@ fn update(s: Scale, rows: &[u32], held: Held, i: usize, words: &[u64], at: usize
     }
 }
 
-// The choice of a round that both donors' held lifts are in: donor 1's at place i, donor 2's at place j.
-fn select_of_two(
-    rows: &[u32],
-    donors: Donors,
-    i: usize,
-    j: usize,
-    words: &[u64],
-    at: usize,
-) -> Selected
-    requires { ⌜ Callable donors (lifts (now rows)) (Held.Both i j) ⌝ }
-    ensures { λ r. ⌜ r ≡ selected donors (lifts (now (rows .entry))) (Held.Both i j) (now (words .entry)) at ⌝ }
+// The preliminary lift, from the held lifts: of two here, a draw says which.
+fn find_preliminary(s: Scale, held: Held, words: &[u64], at: usize) -> Preliminary
+    requires { ⌜ Contested s held ⌝ }
+    ensures { λ r. ⌜ r ≡ preliminaryOf s held (now (words .entry)) at ⌝ }
 {
-    let held = Held::Both(i, j);
-    let s = scaling(rows, donors);
-    match draw::draw_from(words, at, s.new) {
-        Drawn::Value(v, next) => {
-            if v < s.odds {
-                update(s, rows, held, i, words, next)
-            } else {
-                update(s, rows, held, j, words, next)
+    match held {
+        Held::Neither => Preliminary::None,
+        Held::Single(i) => Preliminary::At(i, at),
+        Held::Both(i, j) => match draw::draw_from(words, at, s.new) {
+            Drawn::Value(v, next) => {
+                if v < s.odds {
+                    return Preliminary::At(i, next);
+                }
+                Preliminary::At(j, next)
             }
-        }
-        Drawn::Short => Selected::Short,
+            Drawn::Short => Preliminary::Short,
+        },
     }
 }
 
@@ -391,12 +392,10 @@ pub fn select(rows: &[u32], donors: Donors, held: Held, words: &[u64], at: usize
     requires { ⌜ Callable donors (lifts (now rows)) held ⌝ }
     ensures { λ r. ⌜ r ≡ selected donors (lifts (now (rows .entry))) held (now (words .entry)) at ⌝ }
 {
-    match held {
-        Held::Neither => draw_lift(WHOLLY, rows, held, false, words, at),
-        Held::Single(i) => {
-            let s = scaling(rows, donors);
-            update(s, rows, held, i, words, at)
-        }
-        Held::Both(i, j) => select_of_two(rows, donors, i, j, words, at),
+    let s = scaling(rows, donors);
+    match find_preliminary(s, held, words, at) {
+        Preliminary::None => draw_lift(WHOLLY, rows, held, false, words, at),
+        Preliminary::At(i, next) => update(s, rows, held, i, words, next),
+        Preliminary::Short => Selected::Short,
     }
 }

@@ -1,9 +1,16 @@
--- `round::select` meets its contract: by the cases of the held lifts. Assumes nothing.
+-- `round::select` meets its contract: by the preliminary lift. Assumes nothing.
+use Rattle.round.specs.Rows.{lifts}
+use Rattle.round.proofs.Scales.{whole-room, whole-positive}
+use Rattle.round.proofs.Answers.{on-none, on-place, on-short, on-place-fits, contested}
 use borrow.Author.Needs.{needs}
-use Rattle.round.proofs.Scales.{whole-room, whole-positive, single-inside, updatable}
-use Rattle.round.proofs.Answers.{neither, single}
 use Rattle.round.proofs.select.Statement.{statement}
 use Rattle.round.proofs.select.Tie as tie
+
+scaling-requires : tie.Need-scaling-requires
+scaling-requires c κs = search needs
+
+find-preliminary-requires : tie.Need-find-preliminary-requires
+find-preliminary-requires c κs = contested _ (c .scaling .ensures) (c .before .before .before .pre)
 
 enum-told : tie.Need-enum-told
 enum-told c = search needs
@@ -11,43 +18,43 @@ enum-told c = search needs
 draw-lift-requires : tie.Need-draw-lift-requires
 draw-lift-requires c κs = search (whole-room, whole-positive)
 
-enum-known-held : tie.Need-enum-known-held
-enum-known-held c = search needs
-
-scaling-requires : tie.Need-scaling-requires
-scaling-requires c κs = search needs
+enum-known-i : tie.Need-enum-known-i
+enum-known-i c = search needs
 
 update-requires : tie.Need-update-requires
 update-requires c κs =
-    let p = c .before .before .before .before .before .before .pre in updatable (c .scaling .ensures) p (single-inside (c .before .before .held .given .1) p)
+    let a = c .before .before .before .before .before .before .before .args in
+    on-place-fits (a .donors) (lifts (a .rows .now)) (c .before .before .before .before .scaling .ensures) (a .words .now) (a .at) (a .held) (c .before .before .before .find-preliminary .ensures) (c .before .before .before .before .before .before .before .pre) (c .before .i .given .1)
 
-enum-known-held-2 : tie.Need-enum-known-held-2
-enum-known-held-2 c = search needs
-
-select-of-two-requires : tie.Need-select-of-two-requires
-select-of-two-requires c κs =
-    rw (c .before .held2 .given .1) at (c .before .before .before .before .before .pre)
+enum-told-2 : tie.Need-enum-told-2
+enum-told-2 c = search needs
 
 returns : tie.Need-returns
-returns c = search neither
+returns c =
+    let a = c .before .before .before .before .before .before .before .args in
+    on-none (a .donors) (lifts (a .rows .now)) (c .before .before .before .before .scaling .ensures) (a .words .now) (a .at) (a .held) (c .before .before .before .find-preliminary .ensures) (c .before .enum-told .given .1) (c .draw-lift .ensures)
 
 returns-2 : tie.Need-returns-2
-returns-2 c = search single
+returns-2 c =
+    let a = c .before .before .before .before .before .before .before .before .args in
+    on-place (a .donors) (lifts (a .rows .now)) (c .before .before .before .before .before .scaling .ensures) (a .words .now) (a .at) (a .held) (c .before .before .before .before .find-preliminary .ensures) (c .before .before .i .given .1) (c .update .ensures)
 
 returns-3 : tie.Need-returns-3
-returns-3 c = rw (c .before .before .held2 .given .1) (c .select-of-two .ensures)
+returns-3 c =
+    let a = c .before .before .before .before .before .before .args in
+    on-short (a .donors) (lifts (a .rows .now)) (c .before .before .before .scaling .ensures) (a .words .now) (a .at) (a .held) (c .before .before .find-preliminary .ensures) (c .enum-told2 .given .1)
 
 pub select-spec : {M : Type 1} → statement M
 select-spec =
     tie.close
     (tie.spec
+    scaling-requires
+    find-preliminary-requires
     enum-told
     draw-lift-requires
-    enum-known-held
-    scaling-requires
+    enum-known-i
     update-requires
-    enum-known-held-2
-    select-of-two-requires
+    enum-told-2
     returns
     returns-2
     returns-3)
