@@ -9,8 +9,8 @@ use native.Mathlib.Omega.{arith}
 use lib.Dec.{eqb}
 use lib.ListN.{length, getD, drop, drop-of-length-le}
 use lib.Seq.{drop-cons}
-use borrow.Author.Tests.{le-ltb, eq-eqb, ne-eqb, eqb-true}
-use Rattle.sheet.specs.Sheet.{mostRounds, largestSum, notCounted, kind, placeOf, liftKind, oldKind, newKind, endKind}
+use borrow.Author.Tests.{le-ltb, lt-leb, eq-eqb, ne-eqb, eqb-true}
+use Rattle.sheet.specs.Sheet.{mostRounds, largestSum, notCounted, kind, payload, placeOf, liftKind, oldKind, newKind, endKind}
 use Rattle.sheet.specs.Reading.{next, follows, misnumbered, isPlace, misplaced, uncountedNewcomer, miscounted, mismarked, fault, numbered, Reading, faulty, sound, unless, readFrom, reading}
 use Rattle.sheet.specs.Refusal.{toldOfWords}
 use Rattle.sheet.specs.declared.Before.{Before}
@@ -74,10 +74,10 @@ module _ (k w : ℕ) (small : placeOf w .measure ≤ largestSum) where
   with-neither e = (omega arith, within (omega arith) (rw (eq-eqb (placeOf w .round) 0 (omega arith), eq-eqb (placeOf w .measure) 0 (omega arith))), small)
 
 -- words of a lift none of which is faulty
-pub sound-lift : (s : Before) (a b c : ℕ) → follows (s .kind) liftKind ≡ true → kind a ≡ liftKind → misnumbered s a ≡ false → Counted oldKind b → Counted newKind c
+pub sound-lift : (s : Before) (a b c : ℕ) → follows (s .kind) liftKind ≡ true → kind a ≡ liftKind → s .number < payload a → Counted oldKind b → Counted newKind c
     → (fault s a ≡ 0) × (fault (next s a) b ≡ 0) × (fault (next (next s a) b) c ≡ 0)
 sound-lift s a b c f k n o p = (
-  rw (other-fault s a (rw k f) (rw k), n, k),
+  rw (other-fault s a (rw k f) (rw k), k, ne-eqb (payload a) 0 (omega arith), lt-leb (payload a) (s .number) n),
   rw (place-fault (next s a) b (rw (k, o .0)) (rw (o .0)), o .1, o .0),
   rw (place-fault (next (next s a) b) c (rw (o .0, p .0)) (rw (p .0)), p .1, p .0, ne-eqb (placeOf c .measure) notCounted (omega arith), neither),
 )

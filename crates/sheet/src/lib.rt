@@ -378,16 +378,19 @@ fn is_counted_place(kind: u32, word: u32) -> bool
     requires { ⌜ kind < 16 ⌝ }
     ensures { λ r. ⌜ (r ≡ true → (kindOf word ≡ kind) × (misplacedOf word ≡ false) × (placeOf word .measure ≤ largestSum)) ⌝ }
 {
-    if Sheet::measure(word) > Sheet::LARGEST_SUM {
+    let none = Sheet::word(kind, 0);
+    if word < none {
         return false;
     }
-    let none = Sheet::word(kind, 0);
+    if none + Sheet::ROUNDS * Sheet::MEASURES <= word {
+        return false;
+    }
     if none < word {
         if word < none + Sheet::MEASURES {
             return false;
         }
     }
-    none <= word && word < none + Sheet::ROUNDS * Sheet::MEASURES
+    Sheet::measure(word) <= Sheet::LARGEST_SUM
 }
 
 // Whether three words are those of a lift, and each meets no refusal after those before it.
@@ -400,7 +403,7 @@ fn is_sound_lift(s: Before, lift: u32, old: u32, new: u32) -> bool
     if Sheet::kind(lift) != Sheet::LIFT {
         return false;
     }
-    if misnumbered(s, lift) {
+    if Sheet::payload(lift) <= s.number {
         return false;
     }
     if !is_counted_place(Sheet::OLD, old) {
@@ -519,8 +522,9 @@ fn survey(sheet: &[u32]) -> Tallies
     let mut new_lifts = [0u64; Sheet::TABLE];
     let mut new_sums = [0u64; Sheet::TABLE];
     let mut donors = [0u64; 2 * Sheet::TABLE];
+    let last = sheet.len() - 1;
     let mut i = 0;
-    while i + 1 < sheet.len() {
+    while i < last {
         let l = entry_at(sheet, i);
         let from = l.from;
         let old = l.old;

@@ -1,4 +1,5 @@
 -- `sheet::is_sound_lift` meets its contract: each test that passes is a premise of `sound-lift`. Assumes nothing.
+use native.Mathlib.Omega.{arith}
 use borrow.Author.Needs.{needs}
 use borrow.Author.Tests.{not-false}
 use mathlib.Core.Path.{sym, _∙_}
@@ -19,8 +20,8 @@ kind-requires c κs = search needs
 returns-2 : tie.Need-returns-2
 returns-2 c h = absurd (true≢false (sym h))
 
-misnumbered-requires : tie.Need-misnumbered-requires
-misnumbered-requires c κs = search needs
+payload-requires : tie.Need-payload-requires
+payload-requires c κs = search needs
 
 returns-3 : tie.Need-returns-3
 returns-3 c h = absurd (true≢false (sym h))
@@ -37,9 +38,9 @@ is-counted-place-requires-2 c κs = search needs
 returns-5 : tie.Need-returns-5
 returns-5 c h =
     sound-lift _ _ _ _
-    (sym (c .before .before .before .before .before .before .before .before .follows .ensures) ∙ not-false _ (c .before .before .before .before .before .before .before .if1 .left))
-    (sym (c .before .before .before .before .before .before .kind .ensures) ∙ c .before .before .before .before .before .if2 .left)
-    (sym (c .before .before .before .before .misnumbered .ensures) ∙ c .before .before .before .if3 .left)
+    (sym (c .before .before .before .before .before .before .before .before .before .follows .ensures) ∙ not-false _ (c .before .before .before .before .before .before .before .before .if1 .left))
+    (sym (c .before .before .before .before .before .before .before .kind .ensures) ∙ c .before .before .before .before .before .before .if2 .left)
+    (omega (arith, c .before .before .before .before .before .payload .ensures, c .before .before .before .if3 .left))
     (c .before .before .is-counted-place .ensures (not-false _ (c .before .if4 .left)))
     (c .is-counted-place2 .ensures h)
 
@@ -51,7 +52,7 @@ is-sound-lift-spec =
     returns
     kind-requires
     returns-2
-    misnumbered-requires
+    payload-requires
     returns-3
     is-counted-place-requires
     returns-4
