@@ -6,7 +6,7 @@ ghost use lib.Seq.{sets};
 ghost use Rattle.sheet.specs.Sheet.{mostRounds, oldKind, newKind, liftOf, lifts as liftsOfSheet, placeWord, sheetOf};
 ghost use Rattle.sheet.specs.Reading.{Legible};
 ghost use Rattle.sheet.specs.Rounds.{placeAt};
-ghost use Rattle.sheet.specs.Tables.{Tabled};
+ghost use Rattle.sheet.specs.Tables.{Marked, Tabled};
 ghost use Rattle.sheet.specs.Reply.{onto};
 ghost use Rattle.carry.specs.Next.{remaining as remainingOf, uncounted, carriedOn, inTable};
 ghost use Rattle.carry.specs.Writing.{wordsOn};
@@ -27,6 +27,7 @@ pub fn remaining(sheet: &[u32], t: Tallies) -> usize
 // The word of the old place of the lift at position i in the next quarter.
 fn old_word(sheet: &[u32], i: usize) -> u32
     requires { ⌜ i + 3 < length (now sheet) ⌝ }
+    requires { ⌜ Marked (drop i (now sheet)) ⌝ }
     ensures { λ r. ⌜ r ≡ placeWord oldKind (placeAt Side.New (liftOf (drop i (now (sheet .entry))))) ⌝ }
 {
     let l = sheet::entry_at(sheet, i);
@@ -36,6 +37,7 @@ fn old_word(sheet: &[u32], i: usize) -> u32
 // The word of the new place of the lift at position i in the next quarter.
 fn new_word(sheet: &[u32], i: usize) -> u32
     requires { ⌜ i + 3 < length (now sheet) ⌝ }
+    requires { ⌜ Marked (drop i (now sheet)) ⌝ }
     ensures { λ r. ⌜ r ≡ placeWord newKind (uncounted (liftOf (drop i (now (sheet .entry))))) ⌝ }
 {
     let l = sheet::entry_at(sheet, i);
@@ -48,6 +50,7 @@ fn new_word(sheet: &[u32], i: usize) -> u32
 // Whether the lift at position i is chosen, from the numbers of the lifts chosen by new round.
 fn is_chosen(sheet: &[u32], i: usize, chosen: &[u32; Sheet::TABLE]) -> bool
     requires { ⌜ i + 3 < length (now sheet) ⌝ }
+    requires { ⌜ Marked (drop i (now sheet)) ⌝ }
     requires { ⌜ liftOf (drop i (now sheet)) .new .round ≤ mostRounds ⌝ }
     ensures { λ r. ⌜ r ≡ inTable (now (chosen .entry)) (liftOf (drop i (now (sheet .entry)))) ⌝ }
 {
@@ -65,6 +68,7 @@ fn write_lift(
     at: usize,
 ) -> usize
     requires { ⌜ i + 3 < length (now sheet) ⌝ }
+    requires { ⌜ Marked (drop i (now sheet)) ⌝ }
     requires { ⌜ liftOf (drop i (now sheet)) .new .round ≤ mostRounds ⌝ }
     requires { ⌜ at + length (wordsOn (inTable (now chosen)) (liftOf (drop i (now sheet)))) ≤ length (now next) ⌝ }
     ensures behind { λ r. ⌜ r ≡ at + length (wordsOn (inTable (now (chosen .entry))) (liftOf (drop i (now (sheet .entry))))) ⌝ }

@@ -1,5 +1,5 @@
 -- Walks over the lifts of a legible sheet, position by position: what is left of the words is the words of the lifts left.
-use Prim.Native.Nat.{ℕ, _+_, _-_, _≤_, _<_}
+use Prim.Native.Nat.{ℕ, _+_, _-_, _^_, _≤_, _<_}
 use mathlib.Core.Path.{_≡_, refl, sym, ap, subst, _∙_}
 use mathlib.Core.Bool.{Bool, true, false, cond}
 use mathlib.Core.List.{List, [], _∷_, _++_}
@@ -11,7 +11,7 @@ use Rattle.laws.specs.Sum.{indicator}
 use Rattle.laws.proofs.Sums.{indicator-le}
 use Rattle.sheet.specs.Sheet.{mostRounds, kind, payload, liftKind, oldKind, newKind, heldKind, endKind, Lift, liftOf, lifts, word, placeWord, wordsOf, written}
 use Rattle.sheet.specs.Reading.{Legible}
-use Rattle.sheet.specs.Tables.{entryOf}
+use Rattle.sheet.specs.Tables.{Marked, entryOf}
 use Rattle.sheet.specs.declared.Entry.{Entry}
 use Rattle.sheet.specs.Law.{Placed, Proper, Listed}
 use Rattle.sheet.proofs.Trips.{kind-word, payload-word, kind-place, placed-writable, read-theorem}
@@ -24,12 +24,13 @@ end n = word endKind n ∷ []
 pub record Between (ws : List ℕ) (i : ℕ) : Type 0 where
   pub before : ℕ
   pub listed : Listed before (lifts (drop i ws))
+  pub few : length (lifts ws) < 2 ^ 28
   pub back : written (lifts (drop i ws)) (end (length (lifts ws))) ≡ drop i ws
 
 pub between-none : {ws : List ℕ} → Legible ws → Between ws 0
 between-none {ws} l =
     let r = read-theorem ws (l .read) in
-    record { before = 0; listed = r .listable .listed; back = r .back }
+    record { before = 0; listed = r .listable .listed; few = omega (arith, r .listable .few); back = r .back }
 
 -- where the lift at position i ends
 abbrev pub behind : List ℕ → ℕ → ℕ
@@ -38,6 +39,7 @@ behind ws i = i + (3 + indicator (liftOf (drop i ws) .held))
 -- what holds at a lift
 pub record Turn (ws : List ℕ) (i : ℕ) : Type 0 where
   pub room : i + 3 < length ws
+  pub marked : Marked (drop i ws)
   pub old : Placed oldKind (liftOf (drop i ws) .old)
   pub new : Placed newKind (liftOf (drop i ws) .new)
   pub here : lifts (drop i ws) ≡ liftOf (drop i ws) ∷ lifts (drop (behind ws i) ws)
@@ -93,6 +95,17 @@ long : (t : Bool) (ws : List ℕ) → length ws ≤ length (cond t (word heldKin
 long true ws = omega arith
 long false ws = omega arith
 
+-- the word behind a lift's places is the held word, the next lift's first or the end word
+marked-words : (l : Lift) (ls : List Lift) (n : ℕ) → Listed (l .number) ls → n < 2 ^ 28 → Marked (wordsOf l ++ written ls (end n))
+unfolding written Listed
+marked-words l ls n d h = go (l .held) ls d
+  where
+    go : (t : Bool) (ls : List Lift) → Listed (l .number) ls
+        → Marked (word liftKind (l .number) ∷ placeWord oldKind (l .old) ∷ placeWord newKind (l .new) ∷ cond t (word heldKind 0 ∷ []) [] ++ written ls (end n))
+    go true ls d k = refl
+    go false [] d k = absurd (omega (arith, k, kind-word endKind n h))
+    go false (m ∷ ms) d k = absurd (omega (arith, k, kind-word liftKind (m .number) (d .0 .payload)))
+
 module _ {ws : List ℕ} {i : ℕ} (b : Between ws i) where
   -- the words left, where the lifts left are known
   left : (ls : List Lift) → lifts (drop i ws) ≡ ls → drop i ws ≡ written ls (end (length (lifts ws)))
@@ -120,10 +133,11 @@ module _ {ws : List ℕ} {i : ℕ} (b : Between ws i) where
       ap (λ t. drop (i + (3 + indicator t)) ws) (ap (λ x. x .held) s) ∙ rw (← drop-drop (3 + indicator (l .held)) i ws, q) (drop-one l rest) in
       record {
         room = omega (arith, left-some l ls e);
+        marked = rw q (marked-words l ls (length (lifts ws)) ((rw e at (b .listed)) .1) (b .few));
         old = subst (Placed oldKind) (sym (ap (λ x. x .old) s)) (p .old);
         new = subst (Placed newKind) (sym (ap (λ x. x .new) s)) (p .new);
         here = rw d o;
-        next = record { before = l .number; listed = rw (d, t) ((rw e at (b .listed)) .1); back = rw (d, t) refl };
+        next = record { before = l .number; listed = rw (d, t) ((rw e at (b .listed)) .1); few = b .few; back = rw (d, t) refl };
       }
 
   -- where more than the end word is left there is a lift

@@ -7,7 +7,7 @@ use lib.Dec.{eqb, leb, ltb}
 use lib.ListN.{getD}
 use lib.Count.{ones}
 use Rattle.laws.specs.Sum.{indicator}
-use Rattle.sheet.specs.Sheet.{mostRounds, largestSum, Lift}
+use Rattle.sheet.specs.Sheet.{mostRounds, largestSum, kind, heldKind, Lift, word}
 use Rattle.sheet.specs.Rounds.{placeAt, named, sumOf, heldIn, sends}
 use Rattle.sheet.specs.declared.Side.the-variants.{Old, New}
 use Rattle.sheet.specs.declared.Entry.{Entry}
@@ -25,6 +25,10 @@ tabulate (suc n) f = f 0 ∷ tabulate n (λ i. f (suc i))
 -- a number for each round from 0 up
 abbrev pub table : (ℕ → ℕ) → List ℕ
 table f = tabulate (mostRounds + 1) f
+
+-- the word behind a lift's places, if it is of kind 4, is the held word: so it is in a legible sheet
+abbrev pub Marked : List ℕ → Type 0
+Marked ws = kind (getD ws 3 0) ≡ heldKind → getD ws 3 0 ≡ word heldKind 0
 
 -- a lift as the code reads it
 abbrev pub entryOf : Lift → Entry

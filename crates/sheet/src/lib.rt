@@ -11,7 +11,7 @@ ghost use Rattle.sheet.specs.Sheet.{largestSum, longest, kind as kindOf,
 ghost use Rattle.sheet.specs.Reading.{next as nextOf, follows as followsOf, misnumbered as misnumberedOf, isPlace, tooLarge as tooLargeOf, beyond as beyondOf, misplaced as misplacedOf, uncountedNewcomer as uncountedNewcomerOf, miscounted as miscountedOf, mismarked as mismarkedOf, fault, unless, sound, reading, ofWords, Legible};
 ghost use Rattle.sheet.specs.Rounds.{rounds, filledIn as filledInOf};
 ghost use Rattle.sheet.specs.Refusal.{ofRounds, verdict, refusal, told, toldOfWords};
-ghost use Rattle.sheet.specs.Tables.{entryOf, bitOf, donorCounts, Tabled, breaks as breaksOf, first as firstOf};
+ghost use Rattle.sheet.specs.Tables.{Marked, entryOf, bitOf, donorCounts, Tabled, breaks as breaksOf, first as firstOf};
 ghost use Rattle.sheet.specs.Law.{Answered};
 
 // A sheet that fits: how many lifts and how many new rounds it has.
@@ -51,6 +51,9 @@ impl Sheet {
     pub const HELD: u32 = 4;
 
     pub const END: u32 = 15;
+
+    // The only held word of a legible sheet.
+    const HELD_WORD: u32 = Self::HELD * Self::PAYLOADS;
 
     // A word's kind.
     pub fn kind(word: u32) -> u32
@@ -477,6 +480,7 @@ fn filled_in(old: u64, new: u64) -> u64
 // The lift at position i.
 pub fn entry_at(sheet: &[u32], i: usize) -> Entry
     requires { ⌜ i + 3 < length (now sheet) ⌝ }
+    requires { ⌜ Marked (drop i (now sheet)) ⌝ }
     ensures { λ r. ⌜ r ≡ entryOf (liftOf (drop i (now (sheet .entry)))) ⌝ }
 {
     let old = sheet[i + 1];
@@ -488,7 +492,7 @@ pub fn entry_at(sheet: &[u32], i: usize) -> Entry
         old: measure,
         to: Sheet::round(new),
         new: filled_in(measure, Sheet::measure(new)),
-        held: Sheet::kind(sheet[i + 3]) == Sheet::HELD,
+        held: sheet[i + 3] == Sheet::HELD_WORD,
     }
 }
 
@@ -497,8 +501,7 @@ pub fn marks(sheet: &[u32], i: usize) -> usize
     requires { ⌜ i + 3 < length (now sheet) ⌝ }
     ensures { λ r. ⌜ r ≡ indicator (liftOf (drop i (now (sheet .entry))) .held) ⌝ }
 {
-    let l = entry_at(sheet, i);
-    if l.held {
+    if Sheet::kind(sheet[i + 3]) == Sheet::HELD {
         return 1;
     }
     0

@@ -17,10 +17,10 @@ entry-at-requires : tie.Need-entry-at-requires
 entry-at-requires c κs = search needs
 
 mul-result : tie.Need-mul-result
-mul-result c = omega (arith, ap (λ e. e .to) (c .entry-at .ensures), c .before .before .pre .1)
+mul-result c = omega (arith, ap (λ e. e .to) (c .entry-at .ensures), c .before .before .pre .1 .1)
 
 element-copy-out-result : tie.Need-element-copy-out-result
-element-copy-out-result c = omega (arith, ap (λ e. e .to) (c .entry-at .ensures), c .before .before .pre .1)
+element-copy-out-result c = omega (arith, ap (λ e. e .to) (c .entry-at .ensures), c .before .before .pre .1 .1)
 
 returns : tie.Need-returns
 returns c = in-table (words (c .before .before .before .before)) (c .before .before .entry-at .ensures) (c .before .before .before .before .args .chosen .now)

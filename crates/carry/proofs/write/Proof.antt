@@ -46,7 +46,7 @@ add-loop : tie.Need-add-loop Inv-loop μ-loop
 add-loop c = omega (arith, inside (c .loop .inv .between), c .before .before .before .pre .0 .short)
 
 write-lift-requires : tie.Need-write-lift-requires Inv-loop μ-loop
-write-lift-requires c κs = (lift (c .before) .room, (lift (c .before) .new .round, next-fits (c .before)))
+write-lift-requires c κs = let l = lift (c .before) in (l .room, (l .marked, (l .new .round, next-fits (c .before))))
 
 marks-requires : tie.Need-marks-requires Inv-loop μ-loop
 marks-requires c κs = lift (c .before .before .before .before) .room

@@ -23,12 +23,12 @@ stays : (c : tie.Else1) → lift (c .before .before .before .before .before) .ne
 stays c e = c .if1 .left (ap (λ l. l .to) (c .before .before .entry-at .ensures) ∙ e)
 
 room : (c : tie.Else1) → c .before .before .before .before .before .args .at + 3 ≤ length (c .before .before .before .before .before .args .next .now)
-room c = let a = c .before .before .before .before .before in omega (arith, words-three (held a) (lift a) (stays c), a .pre .1 .1)
+room c = let a = c .before .before .before .before .before in omega (arith, words-three (held a) (lift a) (stays c), a .pre .1 .1 .1)
 
 room-held : (c : tie.Then2) → c .before .before .before .before .before .before .before .before .before .before .args .at + 4 ≤ length (c .before .before .before .before .before .before .before .before .before .before .args .next .now)
 room-held c =
     let a = c .before .before .before .before .before .before .before .before .before .before in
-    omega (arith, words-four (held a) (lift a) (stays (c .before .before .before .before .before)) (sym (c .before .is-chosen .ensures) ∙ c .if2 .taken), a .pre .1 .1)
+    omega (arith, words-four (held a) (lift a) (stays (c .before .before .before .before .before)) (sym (c .before .is-chosen .ensures) ∙ c .if2 .taken), a .pre .1 .1 .1)
 
 entry-at-requires : tie.Need-entry-at-requires
 entry-at-requires c κs = search needs

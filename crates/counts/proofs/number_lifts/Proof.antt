@@ -20,7 +20,7 @@ loop-holds : tie.Need-loop-holds Inv-loop μ-loop
 loop-holds c = numbering-none (c .before .before .pre .0) (c .before .before .pre .1)
 
 entry-at-requires : tie.Need-entry-at-requires Inv-loop μ-loop
-entry-at-requires c κs = numbering-at (c .before .loop .inv) (c .loop-test .taken) .room
+entry-at-requires c κs = let l = numbering-at (c .before .loop .inv) (c .loop-test .taken) in (l .room, l .marked)
 
 cast-numbers : tie.Need-cast-numbers Inv-loop μ-loop
 cast-numbers c = search needs

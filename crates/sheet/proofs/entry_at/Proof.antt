@@ -1,7 +1,5 @@
 -- `sheet::entry_at` meets its contract: a lift's words tell what it is. Assumes nothing.
-use mathlib.Core.Path.{ap}
-use lib.Dec.{eqb}
-use Rattle.sheet.specs.Sheet.{heldKind}
+use mathlib.Core.Path.{refl}
 use Rattle.sheet.proofs.Lifts.{entry-told}
 use borrow.Author.Needs.{needs}
 use Rattle.sheet.proofs.entry_at.Statement.{statement}
@@ -49,20 +47,19 @@ measure-requires-2 c κs = search needs
 filled-in-requires : tie.Need-filled-in-requires
 filled-in-requires c κs = search needs
 
-add-kind : tie.Need-add-kind
-add-kind c = search needs
+add-t16 : tie.Need-add-t16
+add-t16 c = search needs
 
-mul-kind : tie.Need-mul-kind
-mul-kind c = search needs
+mul-t17 : tie.Need-mul-t17
+mul-t17 c = search needs
 
-shared-slice-read-kind : tie.Need-shared-slice-read-kind
-shared-slice-read-kind c = search needs
-
-kind-requires : tie.Need-kind-requires
-kind-requires c κs = search needs
+shared-slice-read-t19 : tie.Need-shared-slice-read-t19
+shared-slice-read-t19 c = search needs
 
 returns : tie.Need-returns
-returns c = entry-told (c .before .before .before .before .before .before .before .before .before .before .before .before .args .sheet .now) (c .before .before .before .before .before .before .before .before .before .before .before .before .args .i) (c .before .before .before .before .before .before .payload .ensures) (c .before .before .before .before .before .round .ensures) (c .before .before .before .before .before .before .before .before .measure .ensures) (c .before .before .before .before .round2 .ensures) (c .before .before .before .measure2 .ensures) (c .before .before .filled-in .ensures) (ap (λ k. eqb k heldKind) (c .kind .ensures))
+returns c =
+    let b = c .before .before .before .before .before .before .before .before .before .before .before in
+    entry-told (b .args .sheet .now) (b .args .i) (c .before .before .before .before .before .payload .ensures) (c .before .before .before .before .round .ensures) (c .before .before .before .before .before .before .before .measure .ensures) (c .before .before .before .round2 .ensures) (c .before .before .measure2 .ensures) (c .before .filled-in .ensures) (b .pre .1) refl
 
 pub entry-at-spec : {M : Type 1} → statement M
 entry-at-spec =
@@ -82,8 +79,7 @@ entry-at-spec =
     round-requires-2
     measure-requires-2
     filled-in-requires
-    add-kind
-    mul-kind
-    shared-slice-read-kind
-    kind-requires
+    add-t16
+    mul-t17
+    shared-slice-read-t19
     returns)

@@ -1,18 +1,27 @@
--- `sheet::marks` meets its contract: by whether the lift is held. Assumes nothing.
-use mathlib.Core.Path.{sym, ap, _∙_}
-use Rattle.laws.specs.Sum.{indicator}
+-- `sheet::marks` meets its contract: the word behind the lift's places is a held word or not. Assumes nothing.
 use borrow.Author.Needs.{needs}
+use Rattle.sheet.proofs.Lifts.{marked, unmarked}
 use Rattle.sheet.proofs.marks.Statement.{statement}
 use Rattle.sheet.proofs.marks.Tie as tie
 
-entry-at-requires : tie.Need-entry-at-requires
-entry-at-requires c κs = search needs
+add-kind : tie.Need-add-kind
+add-kind c = search needs
+
+mul-kind : tie.Need-mul-kind
+mul-kind c = search needs
+
+shared-slice-read-kind : tie.Need-shared-slice-read-kind
+shared-slice-read-kind c = search needs
+
+kind-requires : tie.Need-kind-requires
+kind-requires c κs = search needs
 
 returns : tie.Need-returns
-returns c = ap indicator (sym (c .if1 .taken) ∙ ap (λ e. e .held) (c .before .entry-at .ensures))
+returns c = search marked
 
 returns-2 : tie.Need-returns-2
-returns-2 c = ap indicator (sym (c .if1 .left) ∙ ap (λ e. e .held) (c .before .entry-at .ensures))
+returns-2 c = search unmarked
 
 pub marks-spec : {M : Type 1} → statement M
-marks-spec = tie.close (tie.spec entry-at-requires returns returns-2)
+marks-spec =
+    tie.close (tie.spec add-kind mul-kind shared-slice-read-kind kind-requires returns returns-2)

@@ -40,7 +40,7 @@ loop-holds : tie.Need-loop-holds Inv-loop μ-loop
 loop-holds c = surveyed-none (c .before .pre)
 
 entry-at-requires : tie.Need-entry-at-requires Inv-loop μ-loop
-entry-at-requires c κs = turn (c .before .loop .inv .held .between) (more c) .room
+entry-at-requires c κs = let l = turn (c .before .loop .inv .held .between) (more c) in (l .room, l .marked)
 
 mul-word : tie.Need-mul-word Inv-loop μ-loop
 mul-word c = omega (arith, to-lt (c .before .before .loop .inv) (more (c .before)) (c .entry-at .ensures))
