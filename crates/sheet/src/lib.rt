@@ -381,19 +381,16 @@ fn is_counted_place(kind: u32, word: u32) -> bool
     requires { ⌜ kind < 16 ⌝ }
     ensures { λ r. ⌜ (r ≡ true → (kindOf word ≡ kind) × (misplacedOf word ≡ false) × (placeOf word .measure ≤ largestSum)) ⌝ }
 {
+    if Sheet::measure(word) > Sheet::LARGEST_SUM {
+        return false;
+    }
     let none = Sheet::word(kind, 0);
-    if word < none {
-        return false;
-    }
-    if none + Sheet::ROUNDS * Sheet::MEASURES <= word {
-        return false;
-    }
     if none < word {
         if word < none + Sheet::MEASURES {
             return false;
         }
     }
-    Sheet::measure(word) <= Sheet::LARGEST_SUM
+    none <= word && word < none + Sheet::ROUNDS * Sheet::MEASURES
 }
 
 // Whether three words are those of a lift, and each meets no refusal after those before it.
