@@ -73,7 +73,7 @@ going-end {ls} {next = next} {r = r} g h =
     rw (← e) (record { numbers = g .by-number; outcomes = g .by-outcome; next = refl; finished = refl })
 
 -- a round's step
-module _ {ls : List Lift} {rows : List ℕ} {x : Layout} {sums ws : List ℕ} {start : ℕ} {numbers outcomes : List ℕ} {next r : ℕ} (d : Lent ls rows x sums)
+module _ {ls : List Lift} {rows : List ℕ} {x : Layout} {sums news ws : List ℕ} {start : ℕ} {numbers outcomes : List ℕ} {next r : ℕ} (d : Lent ls rows x sums news)
     (g : Going ls ws start numbers outcomes next r) (high : r ≤ mostRounds) {ds : Donors} {h : Held} (ed : ds ≡ donorsIn x sums r) (eh : h ≡ marksIn x r)
     {y : Step} (ey : y ≡ stepOf (partOf x r rows) (selected ds (liftsOfRows (partOf x r rows)) h ws next)) where
   e : y ≡ stepOf (partOf x r rows) (selected (donorsIn x sums r) (liftsOfRows (partOf x r rows)) (marksIn x r) ws next)

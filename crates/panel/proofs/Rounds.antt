@@ -23,7 +23,8 @@ use Rattle.round.specs.declared.Donors.the-variants.{One, Two}
 use Rattle.round.specs.declared.Held.{Held}
 use Rattle.round.specs.declared.Selected.{Selected}
 use Rattle.round.specs.declared.Lift.{Lift as RoundLift}
-use Rattle.round.specs.Rows.{liftOf, lifts as liftsOfRows, Callable, rowLength}
+use Rattle.round.specs.Rows.{liftOf, lifts as liftsOfRows, Callable, rowLength, sumsOf}
+use Rattle.round.specs.declared.Sums.{Sums}
 use Rattle.sheet.specs.Sheet.{mostLifts, mostRounds, Lift}
 use Rattle.sheet.specs.Rounds.{named, sumOf, sends, donors, donorNumber, ofRound, heldAt}
 use Rattle.sheet.specs.Tables.{table}
@@ -36,7 +37,8 @@ use Rattle.sheet.proofs.Tables.{getD-tabulate}
 use Rattle.rows.proofs.Placing.{below-le, below-suc, named-length}
 use Rattle.selection.specs.Choice.{withSums, donorsOf, inRound, liftsOf, heldAmong, heldIn, planOf, nobody, liftAt}
 use Rattle.selection.proofs.Held.{held-exactly}
-use Rattle.selection.proofs.RoundsFit.{Senders, none, one, two, senders, round-fits, round-bounded, round-stands}
+use Rattle.selection.proofs.Sums.{U-by-number}
+use Rattle.selection.proofs.RoundsFit.{Senders, none, one, two, senders, S-round, round-fits, round-bounded, round-stands}
 use Rattle.selection.proofs.Selections.{sends-named}
 use Rattle.panel.specs.Choosing.{present, chosenOf, stepOf}
 use Rattle.panel.specs.declared.Step.the-variants.{Passed}
@@ -61,12 +63,13 @@ rows-lifts whole r (l ∷ ls) = go (eqb (l .new .round) r) refl (rows-lifts whol
 
 -- ---- one round of a layout
 
--- what is lent: the layout of lifts that fit, and their old sums
-pub record Lent (ls : List Lift) (rows : List ℕ) (x : Layout) (sums : List ℕ) : Type 0 where
+-- what is lent: the layout of lifts that fit, and their old and new sums
+pub record Lent (ls : List Lift) (rows : List ℕ) (x : Layout) (sums news : List ℕ) : Type 0 where
   pub fit : Fit ls
   pub long : length rows ≡ rowLength * length ls
   pub laid : Laid ls rows x
   pub old-sums : sums ≡ table (λ t. sumOf Old t ls)
+  pub new-sums : news ≡ table (λ t. sumOf New t ls)
 
 -- where round r begins
 abbrev pub begins : Layout → ℕ → ℕ
@@ -91,7 +94,7 @@ numbers-are ls [] i = refl
 numbers-are ls (u ∷ us) zero = refl
 numbers-are ls (u ∷ us) (suc i) = numbers-are ls us i
 
-module _ {ls : List Lift} {rows : List ℕ} {x : Layout} {sums : List ℕ} (d : Lent ls rows x sums) {r : ℕ} (low : 1 ≤ r) (high : r ≤ mostRounds) where
+module _ {ls : List Lift} {rows : List ℕ} {x : Layout} {sums news : List ℕ} (d : Lent ls rows x sums news) {r : ℕ} (low : 1 ≤ r) (high : r ≤ mostRounds) where
   begin : begins x r ≡ below r ls
   begin = ap (λ t. getD t r 0) (d .laid .starts) ∙ getD-tabulate (mostRounds + 2) (λ t. below t ls) r (omega arith)
 
@@ -138,6 +141,12 @@ module _ {ls : List Lift} {rows : List ℕ} {x : Layout} {sums : List ℕ} (d : 
 
   sum-is : (t : ℕ) → t ≤ mostRounds → getD sums t 0 ≡ sumOf Old t ls
   sum-is t h = ap (λ s. getD s t 0) (d .old-sums) ∙ getD-tabulate (mostRounds + 1) _ t (omega arith)
+
+  -- and so are its sums
+  pub sums-are : {y : Sums} → y ≡ record { new = getD news r 0; first = getD (x .sent) (3 * r + 1) 0; second = getD (x .sent) (3 * r + 2) 0 }
+      → y ≡ sumsOf (liftsOfRows (partOf x r rows))
+  unfolding liftsOf
+  sums-are e = e ∙ rw (lifts-are, S-round (d .fit) low high, U-by-number, U-by-number, ← d .laid .sent .part r 1 high (omega arith), ← d .laid .sent .part r 2 high (omega arith)) (ap (λ n. record { new = n; first = getD (x .sent) (3 * r + 1) 0; second = getD (x .sent) (3 * r + 2) 0 }) (ap (λ s. getD s r 0) (d .new-sums) ∙ getD-tabulate (mostRounds + 1) (λ t. sumOf New t ls) r (omega arith)))
 
   -- the layout's two numbers tell its donors
   donors-told : donorsAt x r ≡ donors r ls

@@ -6,7 +6,7 @@ ghost use lib.ListN.{length, getD};
 ghost use Rattle.laws.specs.Pieces.{pieces};
 ghost use Rattle.round.specs.Choice.{selected};
 ghost use Rattle.round.specs.Share.{heldOf};
-ghost use Rattle.round.specs.Rows.{rowLength, lifts as liftsOfRows, Callable};
+ghost use Rattle.round.specs.Rows.{rowLength, lifts as liftsOfRows, Callable, sumsOf};
 ghost use Rattle.sheet.specs.Sheet.{mostRounds, lifts as liftsOfSheet};
 ghost use Rattle.sheet.specs.Reading.{Legible};
 ghost use Rattle.sheet.specs.Tables.{Tabled};
@@ -24,6 +24,7 @@ use round::Donors;
 use round::Held;
 use round::Lift;
 use round::Selected;
+use round::Sums;
 use sheet::Checked;
 use sheet::Found;
 use sheet::Refusal;
@@ -176,15 +177,23 @@ fn number_at(rows: &[u32], place: usize) -> u32
     0
 }
 
-// The choice of a round lent as rows.
-fn choose_lift(rows: &[u32], donors: Donors, held: Held, words: &[u64], at: usize) -> Step
+// The choice of a round lent as rows, with its sums.
+fn choose_lift(
+    rows: &[u32],
+    donors: Donors,
+    held: Held,
+    sums: Sums,
+    words: &[u64],
+    at: usize,
+) -> Step
     requires { ⌜ (0 < length (now rows) → Callable donors (liftsOfRows (now rows)) held) ⌝ }
+    requires { ⌜ sums ≡ sumsOf (liftsOfRows (now rows)) ⌝ }
     ensures { λ r. ⌜ r ≡ stepOf (now (rows .entry)) (selected donors (liftsOfRows (now (rows .entry))) held (now (words .entry)) at) ⌝ }
 {
     if rows.len() == 0 {
         return Step::Passed;
     }
-    match round::select(rows, donors, held, words, at) {
+    match round::select(rows, donors, held, sums, words, at) {
         Selected::At(i, outcome, next) => Step::Chosen(number_at(rows, i), outcome, next),
         Selected::Short => Step::Short,
     }
@@ -213,7 +222,15 @@ fn select_rounds(sheet: &[u32], t: Tallies, words: &[u64], start: usize, rows: &
         let held = held_in(first, second, &x.seats, a, e);
         let begin = Lift::ROW * a as usize;
         let end = Lift::ROW * e as usize;
-        match choose_lift(&rows[begin..end], donors, held, words, next) {
+        let new = t.new_sums[r];
+        let sent1 = x.sent[3 * r + 1];
+        let sent2 = x.sent[3 * r + 2];
+        let sums = Sums {
+            new,
+            first: sent1,
+            second: sent2,
+        };
+        match choose_lift(&rows[begin..end], donors, held, sums, words, next) {
             Step::Passed => {
                 r += 1;
             }

@@ -19,11 +19,11 @@ use Rattle.laws.proofs.Lists.{slice-lent}
 use Rattle.laws.proofs.Sums.{total-map, total-cut, map-le}
 use Rattle.laws.proofs.Intervals.{pick-here, pick-beyond, pick-within, pick-past, pick-lt}
 use Rattle.laws.proofs.Pieces.{length-pieces, piece-inside, piece-element}
-use Rattle.round.specs.Round.{liftAt, S, sent, U, Weight, weightAt, growth, G}
-use Rattle.round.specs.Rows.{lift, rowLength, liftOf, lifts, capacity, sumsOf, Small, multiplierOf, scaled, Room, LiftRoom, Balanced, blockLength, blockEnd}
+use Rattle.round.specs.Round.{liftAt, Weight, weightAt, growth, G}
+use Rattle.round.specs.Rows.{lift, rowLength, liftOf, lifts, multiplierOf, scaled, Room, LiftRoom, Balanced, blockLength, blockEnd}
 use Rattle.round.specs.declared.Lift.{Lift}
 use Rattle.round.specs.declared.Scale.{Scale}
-use Rattle.round.proofs.Weights.{U-sum, dropped-G, G-le}
+use Rattle.round.proofs.Weights.{dropped-G, G-le}
 
 -- ---- the lifts of the rows
 
@@ -69,47 +69,6 @@ module _ {f : Lift → ℕ} {ls : List Lift} {e i w : ℕ} {x : Lift} (n : e ≤
 pub sum-end : {f : Lift → ℕ} {ls : List Lift} {e i whole sum : ℕ} → e ≤ i → Summed f ls e whole sum i → sum ≡ whole
 unfolding total
 sum-end {ls} {e} {i} h d = let none : e - i ≡ 0 = omega arith in omega (arith, rw (← slice-lent i e ls, none) at (d .same))
-
--- ---- the sums of the round, in one walk
-
--- each of the three sums
-pub record Walked (k : ℕ) (ls : List Lift) (new first last i : ℕ) : Type 0 where
-  pub news : Summed (λ l. l .new) ls (length ls) (S ls) new i
-  pub firsts : Summed (sent 1) ls (length ls) (U 1 ls) first i
-  pub lasts : Summed (sent k) ls (length ls) (U k ls) last i
-
-pub walk-none : (k : ℕ) (ls : List Lift) → Walked k ls 0 0 0 0
-unfolding S
-walk-none k ls = record { news = sum-none (rw (slice-all ls)); firsts = came 1; lasts = came k }
-  where
-    came : (d : ℕ) → Summed (sent d) ls (length ls) (U d ls) 0 0
-    came d = sum-none (rw (slice-all ls, U-sum))
-
-module _ {k : ℕ} {ls : List Lift} {n new first last i : ℕ} {x : Lift} (c : n ≡ length ls) (h : i < n) (r : x ≡ liftAt ls i) (d : Walked k ls new first last i) where
-  -- by one lift
-  adds : {f : Lift → ℕ} {whole sum w : ℕ} → w ≡ f x → Summed f ls (length ls) whole sum i → Summed f ls (length ls) whole (sum + w) (i + 1)
-  adds t u = sum-turn (le-refl _) (omega arith) r t u
-
-  fits : {f : Lift → ℕ} {whole sum w : ℕ} → whole ≤ capacity → w ≡ f x → Summed f ls (length ls) whole sum i → Fits w64 (sum + w)
-  fits s t u = sum-fits (le-refl _) (omega arith) r t u (omega arith)
-
-  pub walk-turn : {f g : ℕ} → f ≡ sent 1 x → g ≡ sent k x → Walked k ls (new + x .new) (first + f) (last + g) (i + 1)
-  walk-turn p q = record { news = adds refl (d .news); firsts = adds p (d .firsts); lasts = adds q (d .lasts) }
-
-  pub new-fit : Small (sumsOf k ls) → Fits w64 (new + x .new)
-  new-fit s = fits (s .new) refl (d .news)
-
-  pub first-fit : {w : ℕ} → Small (sumsOf k ls) → w ≡ sent 1 x → Fits w64 (first + w)
-  first-fit s p = fits (s .first) p (d .firsts)
-
-  pub last-fit : {w : ℕ} → Small (sumsOf k ls) → w ≡ sent k x → Fits w64 (last + w)
-  last-fit s p = fits (s .last) p (d .lasts)
-
-pub walk-end : {k : ℕ} {ls : List Lift} {n new first last i : ℕ} → n ≡ length ls → n ≤ i → Walked k ls new first last i
-    → record { new = new; first = first; last = last } ≡ sumsOf k ls
-walk-end {ls} {i} c h d =
-    let past : length ls ≤ i = omega arith in
-    rw (sum-end past (d .news), sum-end past (d .firsts), sum-end past (d .lasts))
 
 -- ---- the lifts of a block, gathered in an array
 

@@ -13,9 +13,9 @@ use borrow.Author.Tests.{eqb-true}
 use Rattle.laws.specs.Sum.{total}
 use Rattle.laws.specs.Plan.{draw, after}
 use Rattle.laws.proofs.Sums.{total-map, total-mul}
-use Rattle.round.specs.Round.{S, sent, U, D, oldWeight, newWeight, Weight, weights, growth, G, Fitting}
+use Rattle.round.specs.Round.{S, sent, D, oldWeight, newWeight, Weight, weights, growth, G, Fitting}
 use Rattle.round.specs.Choice.{fresh, firstOdds, preliminary, keyfitz, select, plan}
-use Rattle.round.specs.Rows.{sumsOf, Small, scaled, scaleOf, wholly, Room, Balanced, capacity, Bounded, Stands, Callable, drawGrowth}
+use Rattle.round.specs.Rows.{sumsOf, Multipliable, scaled, scaleBy, scaleOf, wholly, Room, Balanced, capacity, Bounded, Stands, Callable, drawGrowth}
 use Rattle.round.specs.declared.Donors.{Donors}
 use Rattle.round.specs.declared.Donors.the-variants.{None, One, Two}
 use Rattle.round.specs.declared.Held.{Held}
@@ -38,19 +38,19 @@ multiplied s l = go (l .donor) (eqb (l .donor) 1) refl (eqb (l .donor) 2) refl
     go d false e false f = omega arith
 
 old-scaled : (ds : Donors) (ls : List Lift) (l : Lift) → oldWeight ds ls l ≡ scaled (scaleOf ds ls) l .old
-unfolding oldWeight scaleOf
+unfolding oldWeight scaleBy
 old-scaled None ls l = omega (arith, multiplied (scaleOf None ls) l)
 old-scaled (One T) ls l = omega (arith, multiplied (scaleOf (One T) ls) l)
 old-scaled (Two T₁ T₂) ls l = omega (arith, multiplied (scaleOf (Two T₁ T₂) ls) l)
 
 D-scale : (ds : Donors) (ls : List Lift) → D ds ls ≡ scaleOf ds ls .new
-unfolding D scaleOf
+unfolding D scaleBy
 D-scale None ls = refl
 D-scale (One T) ls = refl
 D-scale (Two T₁ T₂) ls = refl
 
 odds-scale : (ds : Donors) (ls : List Lift) → firstOdds ds ls ≡ scaleOf ds ls .odds
-unfolding firstOdds scaleOf
+unfolding firstOdds scaleBy
 odds-scale None ls = refl
 odds-scale (One T) ls = refl
 odds-scale (Two T₁ T₂) ls = refl
@@ -96,54 +96,31 @@ whole-positive {ls = ls} f = rw (whole-G ls) (f .positive)
 
 -- ---- the sums of the code
 
--- one donor: the code's sums are the multipliers
-module _ {ds : Donors} {T : ℕ} (ls : List Lift) (e : ds ≡ One T) where
-  pub one-small : Fitting ds ls → Bounded ds ls → Small (sumsOf 1 ls)
-  one-small f b = go (rw e at f) (rw e at b)
-    where
-      go : Fitting (One T) ls → Bounded (One T) ls → Small (sumsOf 1 ls)
-      go f b = let u : U 1 ls ≤ capacity = omega (arith, f .donate .part, b .old) in record { new = b .new; first = u; last = u }
+-- with two donors each sum and each product has room
+module _ {ds : Donors} {T₁ T₂ : ℕ} (t : Sums) (e : ds ≡ Two T₁ T₂) (m : Multipliable ds t) where
+  small : ((T₁ ≤ capacity) × (T₂ ≤ capacity)) × ((t .new ≤ capacity) × (t .first ≤ capacity) × (t .second ≤ capacity))
+  small = rw e at m
 
-  pub one-scale : {t : Sums} → t ≡ sumsOf 1 ls → record { new = t .first; first = t .new; second = 0; odds = 0 } ≡ scaleOf ds ls
-  unfolding scaleOf
-  one-scale p = rw (e, p)
+  pub first-part : Fits w64 (t .first * T₂)
+  first-part = omega (arith, mul-le-mul (small .1 .1) (small .0 .1))
 
--- two donors: so are the code's sums and products, and they have room
-module _ {ds : Donors} {T₁ T₂ : ℕ} (ls : List Lift) (e : ds ≡ Two T₁ T₂) where
-  pub two-scale : {t : Sums} → t ≡ sumsOf 2 ls
-      → record { new = t .first * T₂ + t .last * T₁; first = T₂ * t .new; second = T₁ * t .new; odds = t .last * T₁ } ≡ scaleOf ds ls
-  unfolding scaleOf
-  two-scale p = rw (e, p)
+  pub second-part : Fits w64 (t .second * T₁)
+  second-part = omega (arith, mul-le-mul (small .1 .2) (small .0 .0))
 
-  module _ (f : Fitting ds ls) (b : Bounded ds ls) where
-    -- the donors' whole old sums
-    wholes : (T₁ ≤ capacity) × (T₂ ≤ capacity)
-    wholes = (rw e at b) .old
+  pub both-parts : Fits w64 (t .first * T₂ + t .second * T₁)
+  both-parts = omega (arith, mul-le-mul (small .1 .1) (small .0 .1), mul-le-mul (small .1 .2) (small .0 .0))
 
-    pub two-small : Small (sumsOf 2 ls)
-    two-small = go (rw e at f)
-      where
-        go : Fitting (Two T₁ T₂) ls → Small (sumsOf 2 ls)
-        go f = record { new = b .new; first = omega (arith, f .donate .0 .part, wholes .0); last = omega (arith, f .donate .1 .part, wholes .1) }
+  pub first-times : Fits w64 (T₁ * t .new)
+  first-times = omega (arith, mul-le-mul (small .0 .0) (small .1 .0))
 
-    module _ {t : Sums} (p : t ≡ sumsOf 2 ls) where
-      small : Small t
-      small = rw p two-small
+  pub second-times : Fits w64 (T₂ * t .new)
+  second-times = omega (arith, mul-le-mul (small .0 .1) (small .1 .0))
 
-      pub first-part : Fits w64 (t .first * T₂)
-      first-part = omega (arith, mul-le-mul (small .first) (wholes .1))
-
-      pub last-part : Fits w64 (t .last * T₁)
-      last-part = omega (arith, mul-le-mul (small .last) (wholes .0))
-
-      pub both-parts : Fits w64 (t .first * T₂ + t .last * T₁)
-      both-parts = omega (arith, mul-le-mul (small .first) (wholes .1), mul-le-mul (small .last) (wholes .0))
-
-      pub first-times : Fits w64 (T₁ * t .new)
-      first-times = omega (arith, mul-le-mul (wholes .0) (small .new))
-
-      pub second-times : Fits w64 (T₂ * t .new)
-      second-times = omega (arith, mul-le-mul (wholes .1) (small .new))
+pub multipliable : (ds : Donors) {ls : List Lift} {t : Sums} → t ≡ sumsOf ls → Fitting ds ls → Bounded ds ls → Multipliable ds t
+multipliable None e f b = tt
+multipliable (One T) e f b = tt
+multipliable (Two T₁ T₂) e f b =
+    rw e (b .old, (b .new, omega (arith, f .donate .0 .part, b .old .0), omega (arith, f .donate .1 .part, b .old .1)))
 
 -- ---- what a caller shows
 

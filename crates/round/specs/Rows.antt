@@ -75,15 +75,15 @@ pub record Callable (ds : Donors) (ls : List Lift) (h : Held) : Type 0 where
 
 -- ---- how the code computes
 
--- S, and U of donor 1 and of the last donor, k
-abbrev pub sumsOf : ℕ → List Lift → Sums
-sumsOf k ls = record { new = S ls; first = U 1 ls; last = U k ls }
+-- S, and U of donor 1 and of donor 2
+abbrev pub sumsOf : List Lift → Sums
+sumsOf ls = record { new = S ls; first = U 1 ls; second = U 2 ls }
 
--- none of the sums is above the capacity
-pub record Small (t : Sums) : Type 0 where
-  pub new : t .new ≤ capacity
-  pub first : t .first ≤ capacity
-  pub last : t .last ≤ capacity
+-- with two donors the products of the sums fit 64 bits
+abbrev pub Multipliable : Donors → Sums → Type 0
+Multipliable None t = Unit {0}
+Multipliable (One T) t = Unit {0}
+Multipliable (Two T₁ T₂) t = ((T₁ ≤ capacity) × (T₂ ≤ capacity)) × ((t .new ≤ capacity) × (t .first ≤ capacity) × (t .second ≤ capacity))
 
 -- what a donor's old measures are multiplied by
 abbrev pub multiplierOf : Scale → ℕ → ℕ
@@ -93,11 +93,15 @@ multiplierOf s d = cond (eqb d 1) (s .first) (cond (eqb d 2) (s .second) 0)
 abbrev pub scaled : Scale → Lift → Weight
 scaled s l = record { old = l .old * multiplierOf s (l .donor); new = l .new * s .new }
 
--- the multipliers that give a round's weights, D and U2 × T1 with them
-unfoldable pub scaleOf : Donors → List Lift → Scale
-scaleOf None ls = record { new = 0; first = 0; second = 0; odds = 0 }
-scaleOf (One T) ls = record { new = U 1 ls; first = S ls; second = 0; odds = 0 }
-scaleOf (Two T₁ T₂) ls = record { new = U 1 ls * T₂ + U 2 ls * T₁; first = T₂ * S ls; second = T₁ * S ls; odds = U 2 ls * T₁ }
+-- the multipliers that give a round's weights, D and U2 × T1 with them, from its sums
+unfoldable pub scaleBy : Donors → Sums → Scale
+scaleBy None t = record { new = 0; first = 0; second = 0; odds = 0 }
+scaleBy (One T) t = record { new = t .first; first = t .new; second = 0; odds = 0 }
+scaleBy (Two T₁ T₂) t =
+    record { new = t .first * T₂ + t .second * T₁; first = T₂ * t .new; second = T₁ * t .new; odds = t .second * T₁ }
+
+abbrev pub scaleOf : Donors → List Lift → Scale
+scaleOf ds ls = scaleBy ds (sumsOf ls)
 
 -- the multipliers with which each lift grows by its whole new measure
 abbrev pub wholly : Scale

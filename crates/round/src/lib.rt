@@ -8,9 +8,9 @@ ghost use lib.Seq.{slice};
 ghost use Rattle.laws.specs.Interval.{pick as pickOf};
 ghost use Rattle.draw.specs.Draw.{largest};
 ghost use Rattle.draw.specs.Run.{run};
-ghost use Rattle.round.specs.Round.{liftAt, sent as sentOf, growth, G, Fitting};
+ghost use Rattle.round.specs.Round.{liftAt, growth, G};
 ghost use Rattle.round.specs.Choice.{keyfitz, isHeld, outcome as outcomeOf, selection, answer, selected};
-ghost use Rattle.round.specs.Rows.{lifts, Bounded, Callable, sumsOf, Small, multiplierOf, scaled, scaleOf, Room, LiftRoom, Balanced, blockLength, blockEnd, drawGrowth, Contested, preliminaryOf};
+ghost use Rattle.round.specs.Rows.{lifts, Callable, sumsOf, Multipliable, multiplierOf, scaled, scaleBy, Room, LiftRoom, Balanced, blockLength, blockEnd, drawGrowth, Contested, preliminaryOf};
 use draw::Drawn;
 
 // The donors of a round, with their whole old sums T.
@@ -52,12 +52,11 @@ impl Lift {
     pub const ROW: usize = 4;
 }
 
-// Sums over a round: of its new measures (S), and of the old measures that donor 1 and the last donor sent (U); an only donor is
-// both.
-struct Sums {
-    new: u64,
-    first: u64,
-    last: u64,
+// Sums over a round: of its new measures (S), and of the old measures that donor 1 and donor 2 sent (U).
+pub struct Sums {
+    pub new: u64,
+    pub first: u64,
+    pub second: u64,
 }
 
 // Multipliers that give weights: of new measures, and of the old measures of donor 1 and donor 2. Of the values below `new`,
@@ -227,41 +226,10 @@ fn pick_lift(s: Scale, rows: &[u32], q: u64) -> usize
     i
 }
 
-// A lift's old measure where it comes from donor k, else 0.
-fn sent(l: Lift, k: u32) -> u64
-    ensures { λ r. ⌜ r ≡ sentOf k l ⌝ }
-{
-    if l.donor == k {
-        return l.old;
-    }
-    0
-}
-
-// The sums of a round whose last donor is donor k.
-fn sums_of(rows: &[u32], k: u32) -> Sums
-    requires { ⌜ Small (sumsOf k (lifts (now rows))) ⌝ }
-    ensures { λ r. ⌜ r ≡ sumsOf k (lifts (now (rows .entry))) ⌝ }
-{
-    let n = count(rows);
-    let mut new: u64 = 0;
-    let mut first: u64 = 0;
-    let mut last: u64 = 0;
-    let mut i = 0;
-    while i < n {
-        let l = lift_at(rows, i);
-        new += l.new;
-        first += sent(l, 1);
-        last += sent(l, k);
-        i += 1;
-    }
-    Sums { new, first, last }
-}
-
 // The multipliers that give the weights of a round.
-fn scaling(rows: &[u32], donors: Donors) -> Scale
-    requires { ⌜ Fitting donors (lifts (now rows)) ⌝ }
-    requires { ⌜ Bounded donors (lifts (now rows)) ⌝ }
-    ensures { λ r. ⌜ r ≡ scaleOf donors (lifts (now (rows .entry))) ⌝ }
+fn scaling(t: Sums, donors: Donors) -> Scale
+    requires { ⌜ Multipliable donors t ⌝ }
+    ensures { λ r. ⌜ r ≡ scaleBy donors t ⌝ }
 {
     match donors {
         Donors::None => Scale {
@@ -270,25 +238,18 @@ fn scaling(rows: &[u32], donors: Donors) -> Scale
             second: 0,
             odds: 0,
         },
-        Donors::One(_) => {
-            let t = sums_of(rows, 1);
-            Scale {
-                new: t.first,
-                first: t.new,
-                second: 0,
-                odds: 0,
-            }
-        }
+        Donors::One(_) => Scale {
+            new: t.first,
+            first: t.new,
+            second: 0,
+            odds: 0,
+        },
         Donors::Two(t1, t2) => {
-            let t = sums_of(rows, 2);
-            let s = t.new;
-            let u1 = t.first;
-            let u2 = t.last;
-            let odds = u2 * t1;
+            let odds = t.second * t1;
             Scale {
-                new: u1 * t2 + odds,
-                first: t2 * s,
-                second: t1 * s,
+                new: t.first * t2 + odds,
+                first: t2 * t.new,
+                second: t1 * t.new,
                 odds,
             }
         }
@@ -387,12 +348,20 @@ fn find_preliminary(s: Scale, held: Held, words: &[u64], at: usize) -> Prelimina
     }
 }
 
-// The choice of a round, from its held lifts and the random words from position `at` on.
-pub fn select(rows: &[u32], donors: Donors, held: Held, words: &[u64], at: usize) -> Selected
+// The choice of a round, from its held lifts, its sums and the random words from position `at` on.
+pub fn select(
+    rows: &[u32],
+    donors: Donors,
+    held: Held,
+    t: Sums,
+    words: &[u64],
+    at: usize,
+) -> Selected
     requires { ⌜ Callable donors (lifts (now rows)) held ⌝ }
+    requires { ⌜ t ≡ sumsOf (lifts (now rows)) ⌝ }
     ensures { λ r. ⌜ r ≡ selected donors (lifts (now (rows .entry))) held (now (words .entry)) at ⌝ }
 {
-    let s = scaling(rows, donors);
+    let s = scaling(t, donors);
     match find_preliminary(s, held, words, at) {
         Preliminary::None => draw_lift(WHOLLY, rows, held, false, words, at),
         Preliminary::At(i, next) => update(s, rows, held, i, words, next),

@@ -24,6 +24,13 @@ S-sum number r (l ∷ ls) = go (eqb (l .new .round) r) (S-sum number r ls)
     go true e = ap (λ x. placeAt New l .measure + x) e
     go false e = omega arith
 
+-- U of a donor's number is a sum by that number
+pub U-by-number : (number : ℕ → ℕ) (k : ℕ) (us : List Lift)
+    → U k (map (inRound number) us) ≡ totalBy (λ l. number (l .old .round)) (λ l. l .old .measure) k us
+unfolding U totalBy
+U-by-number number k [] = refl
+U-by-number number k (u ∷ us) = ap (λ n. cond (eqb (number (u .old .round)) k) (u .old .measure) 0 + n) (U-by-number number k us)
+
 -- U of the donor numbered k is what its old round sends, if old round d alone is numbered k
 pub U-sum : (number : ℕ → ℕ) (k d : ℕ) → ((t : ℕ) → eqb (number t) k ≡ eqb t d) → (us : List Lift) → U k (map (inRound number) us) ≡ sumOf Old d us
 unfolding U totalBy

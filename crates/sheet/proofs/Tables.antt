@@ -138,10 +138,10 @@ module _ (key value : Lift → ℕ) (small : (ws : List ℕ) → value (liftOf w
       go false h = omega arith
 
   -- so there is room for what a turn adds
-  pub tally-room : {ws tbl : List ℕ} {i k v : ℕ} → Legible ws → Tallied key value ws tbl i → i + 1 < length ws → k ≡ key (liftOf (drop i ws))
+  pub tally-room : {n : ℕ} {ws tbl : List ℕ} {i k v : ℕ} → Legible ws → Gathered n _+_ (λ r ls. totalBy key value r ls) ws tbl i → i + 1 < length ws → k ≡ key (liftOf (drop i ws))
       → v ≡ value (liftOf (drop i ws)) → getD tbl k 0 + v < 2 ^ 64
   unfolding totalBy
-  tally-room {ws} {tbl} {i} {k} {v} l g h ek ev =
+  tally-room {ws = ws} {tbl = tbl} {i = i} {k = k} {v = v} l g h ek ev =
       let t = turn (g .between) h in
       let e : totalBy key value k (lifts (drop i ws)) ≡ v + totalBy key value k (lifts (drop (behind ws i) ws)) =
       rw (t .here, ← ek, ← ev, eq-eqb k k refl) in

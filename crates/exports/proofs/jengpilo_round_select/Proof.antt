@@ -12,7 +12,9 @@ held-of-requires : tie.Need-held-of-requires
 held-of-requires c κs = search needs
 
 select-requires : tie.Need-select-requires
-select-requires c κs = by-enums (c .before .donors-of .ensures) (c .held-of .ensures) (c .before .before .before .before .pre)
+select-requires c κs =
+    let p = c .before .before .before .before .pre in
+    (by-enums (c .before .donors-of .ensures) (c .held-of .ensures) (p .0), rw (p .1 .0, p .1 .1 .0, p .1 .1 .1))
 
 enum-known-selected : tie.Need-enum-known-selected
 enum-known-selected c = search needs

@@ -12,7 +12,7 @@ returns : tie.Need-returns
 returns c = rw (eq-eqb _ _ (c .if1 .taken))
 
 select-requires : tie.Need-select-requires
-select-requires c κs = c .before .before .before .pre (omega (arith, c .if1 .left))
+select-requires c κs = let p = c .before .before .before .pre in (p .0 (omega (arith, c .if1 .left)), p .1)
 
 enum-known-i : tie.Need-enum-known-i
 enum-known-i c = search needs

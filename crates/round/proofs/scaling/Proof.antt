@@ -1,7 +1,7 @@
--- `round::scaling` meets its contract: the sums of the code are the document's, and they and their products have room. Assumes nothing.
+-- `round::scaling` meets its contract: by how many donors there are; the products have room. Assumes nothing.
 use borrow.Author.Needs.{needs}
-use Rattle.round.specs.Rows.{scaleOf}
-use Rattle.round.proofs.Scales.{one-small, one-scale, two-small, first-part, last-part, both-parts, first-times, second-times, two-scale}
+use Rattle.round.specs.Rows.{scaleBy}
+use Rattle.round.proofs.Scales.{first-part, second-part, both-parts, first-times, second-times}
 use Rattle.round.proofs.scaling.Statement.{statement}
 use Rattle.round.proofs.scaling.Tie as tie
 
@@ -11,39 +11,35 @@ enum-told c = search needs
 enum-told-2 : tie.Need-enum-told-2
 enum-told-2 c = search needs
 
-sums-of-requires : tie.Need-sums-of-requires
-sums-of-requires c κs = search one-small
-
 enum-known-donors : tie.Need-enum-known-donors
 enum-known-donors c = search needs
 
-sums-of-requires-2 : tie.Need-sums-of-requires-2
-sums-of-requires-2 c κs = search two-small
-
 mul-odds : tie.Need-mul-odds
-mul-odds c = search last-part
+mul-odds c = second-part (c .before .before .before .before .args .t) (c .before .before .donors .given .1) (c .before .before .before .before .pre)
 
-mul-t12 : tie.Need-mul-t12
-mul-t12 c = search first-part
+mul-t7 : tie.Need-mul-t7
+mul-t7 c = first-part (c .before .before .before .before .before .args .t) (c .before .before .before .donors .given .1) (c .before .before .before .before .before .pre)
 
-add-t13 : tie.Need-add-t13
-add-t13 c = search both-parts
+add-t8 : tie.Need-add-t8
+add-t8 c = both-parts (c .before .before .before .before .before .args .t) (c .before .before .before .donors .given .1) (c .before .before .before .before .before .pre)
 
-mul-t14 : tie.Need-mul-t14
-mul-t14 c = search second-times
+mul-t9 : tie.Need-mul-t9
+mul-t9 c = second-times (c .before .before .before .before .before .before .args .t) (c .before .before .before .before .donors .given .1) (c .before .before .before .before .before .before .pre)
 
-mul-t15 : tie.Need-mul-t15
-mul-t15 c = search first-times
+mul-t10 : tie.Need-mul-t10
+mul-t10 c = first-times (c .before .before .before .before .before .before .before .args .t) (c .before .before .before .before .before .donors .given .1) (c .before .before .before .before .before .before .before .pre)
 
 returns : tie.Need-returns
-unfolding scaleOf
+unfolding scaleBy
 returns c = rw (c .enum-told .given .1)
 
 returns-2 : tie.Need-returns-2
-returns-2 c = search one-scale
+unfolding scaleBy
+returns-2 c = rw (c .enum-told2 .given .1)
 
 returns-3 : tie.Need-returns-3
-returns-3 c = search two-scale
+unfolding scaleBy
+returns-3 c = rw (c .before .before .before .before .before .donors .given .1)
 
 pub scaling-spec : {M : Type 1} → statement M
 scaling-spec =
@@ -51,14 +47,12 @@ scaling-spec =
     (tie.spec
     enum-told
     enum-told-2
-    sums-of-requires
     enum-known-donors
-    sums-of-requires-2
     mul-odds
-    mul-t12
-    add-t13
-    mul-t14
-    mul-t15
+    mul-t7
+    add-t8
+    mul-t9
+    mul-t10
     returns
     returns-2
     returns-3)
