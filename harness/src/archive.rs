@@ -21,9 +21,6 @@ extern "C" {
         held: u8,
         first_place: usize,
         second_place: usize,
-        new_sum: u64,
-        first_sent: u64,
-        second_sent: u64,
         words: *const u64,
         words_len: usize,
         at: usize,
@@ -106,7 +103,6 @@ pub fn draw_below(words: &[u64], at: usize, bound: u64) -> Option<(u64, usize)> 
 pub fn select(round: &Round, words: &[u64], at: usize) -> Option<Choice> {
     check_required(round);
     let rows: Vec<u32> = round.lifts.iter().flat_map(row_of).collect();
-    let sum = |sum| u64::try_from(sum).expect("a sum fits 64 bits");
     let (held, first_place, second_place) = match round.held {
         [None, None] => (0, 0, 0),
         [Some(place), None] | [None, Some(place)] => (1, place, 0),
@@ -125,9 +121,6 @@ pub fn select(round: &Round, words: &[u64], at: usize) -> Option<Choice> {
             held,
             first_place,
             second_place,
-            sum(round.new_sum()),
-            sum(round.came_here(0)),
-            sum(round.came_here(1)),
             words.as_ptr(),
             words.len(),
             at,

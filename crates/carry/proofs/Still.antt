@@ -9,7 +9,7 @@ use Rattle.laws.specs.Sum.{total, totalBy}
 use Rattle.laws.specs.Plan.{done, after}
 use Rattle.laws.proofs.Lists.{All}
 use Rattle.round.specs.Round.{S, U, D, sent, oldWeight, newWeight, weights, weightAt}
-use Rattle.round.specs.Choice.{selection, preliminary, select, stayOr, keyfitz, plan}
+use Rattle.round.specs.Choice.{selection, preliminaryBy, stayOr, keyfitz, select, plan}
 use Rattle.round.specs.declared.Donors.the-variants.{One}
 use Rattle.round.specs.declared.Held.the-variants.{Single}
 use Rattle.round.specs.declared.Lift.{Lift}
@@ -26,7 +26,7 @@ still-sums (u ∷ us) h =
     ap₂ _+_ (rw (eq-eqb (u .donor) 1 (s .donor)) (s .same)) (still-sums us (λ l m. h l (List·Memᴰ·tail m)))
 
 pub still-plan : (T : ℕ) (us : List Lift) → All Still us → (i : ℕ) → plan (One T) us (Single i) ≡ done (selection i false)
-unfolding plan after preliminary select keyfitz stayOr weights oldWeight newWeight D
+unfolding plan after preliminaryBy select keyfitz stayOr weights oldWeight newWeight D
 still-plan T us h i = rw (le-leb _ _ (no-loss us h i))
   where
     no-loss : (vs : List Lift) → All Still vs → (i : ℕ)

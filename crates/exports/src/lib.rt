@@ -2,7 +2,6 @@
 ghost use mathlib.Core.Path.{_≡_};
 ghost use lib.ListN.{length};
 ghost use Rattle.draw.specs.Draw.{largest, drawAt};
-ghost use Rattle.round.specs.Round.{S, U};
 ghost use Rattle.round.specs.Choice.{selected};
 ghost use Rattle.round.specs.Rows.{lifts, Callable};
 ghost use Rattle.sheet.specs.Refusal.{verdict};
@@ -15,7 +14,6 @@ use draw::Drawn;
 use round::Donors;
 use round::Held;
 use round::Selected;
-use round::Sums;
 use sheet::Checked;
 
 // `draw::draw_from`: true, the value and the next position written; or false, nothing written, where the words end. A bound of 0 has no value, so every word is passed over.
@@ -79,9 +77,6 @@ pub extern "C" fn jengpilo_round_select(
     held: u8,
     i: usize,
     j: usize,
-    s: u64,
-    u1: u64,
-    u2: u64,
     words: &[u64],
     at: usize,
     place: &mut usize,
@@ -89,25 +84,12 @@ pub extern "C" fn jengpilo_round_select(
     next: &mut usize,
 ) -> bool
     requires { ⌜ Callable (donorsOf donors t1 t2) (lifts (now rows)) (heldOf held i j) ⌝ }
-    requires { ⌜ s ≡ S (lifts (now rows)) ⌝ }
-    requires { ⌜ u1 ≡ U 1 (lifts (now rows)) ⌝ }
-    requires { ⌜ u2 ≡ U 2 (lifts (now rows)) ⌝ }
     ensures { λ r. ⌜ Chose (selected (donorsOf donors t1 t2) (lifts (now (rows .entry))) (heldOf held i j) (now (words .entry)) at) r (now (place .entry)) (now (place .exit)) (now (outcome .entry)) (now (outcome .exit)) (now (next .entry)) (now (next .exit)) ⌝ }
 {
-    let sums = Sums {
-        new: s,
-        first: u1,
-        second: u2,
-    };
-    let selected = round::select(
-        rows,
-        donors_of(donors, t1, t2),
-        held_of(held, i, j),
-        sums,
-        words,
-        at,
-    );
-    match selected {
+    let from = donors_of(donors, t1, t2);
+    let here = held_of(held, i, j);
+    let sums = round::sums_of(rows, from);
+    match round::select(rows, from, here, sums, words, at) {
         Selected::At(p, o, n) => {
             *place = p;
             *outcome = o;

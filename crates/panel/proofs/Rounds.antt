@@ -16,14 +16,15 @@ use Rattle.laws.specs.Pieces.{pieces}
 use Rattle.laws.proofs.Pieces.{pieces-part}
 use Rattle.draw.specs.Draw.{largest}
 use Rattle.draw.specs.Run.{run}
+use Rattle.round.specs.Round.{S, U}
 use Rattle.round.specs.Choice.{answer, selected}
 use Rattle.round.specs.Share.{heldOf}
 use Rattle.round.specs.declared.Donors.{Donors}
-use Rattle.round.specs.declared.Donors.the-variants.{One, Two}
+use Rattle.round.specs.declared.Donors.the-variants.{None, One, Two}
 use Rattle.round.specs.declared.Held.{Held}
 use Rattle.round.specs.declared.Selected.{Selected}
 use Rattle.round.specs.declared.Lift.{Lift as RoundLift}
-use Rattle.round.specs.Rows.{liftOf, lifts as liftsOfRows, Callable, rowLength, sumsOf}
+use Rattle.round.specs.Rows.{liftOf, lifts as liftsOfRows, Callable, rowLength, HasSums}
 use Rattle.round.specs.declared.Sums.{Sums}
 use Rattle.sheet.specs.Sheet.{mostLifts, mostRounds, Lift}
 use Rattle.sheet.specs.Rounds.{named, sumOf, sends, donors, donorNumber, ofRound, heldAt}
@@ -94,6 +95,11 @@ numbers-are ls [] i = refl
 numbers-are ls (u ∷ us) zero = refl
 numbers-are ls (u ∷ us) (suc i) = numbers-are ls us i
 
+has-sums : (ds : Donors) (us : List RoundLift) {y : Sums} → y ≡ record { new = S us; first = U 1 us; second = U 2 us } → HasSums ds us y
+has-sums None us e = tt
+has-sums (One T) us e = rw e (refl, refl)
+has-sums (Two T₁ T₂) us e = rw e (refl, refl, refl)
+
 module _ {ls : List Lift} {rows : List ℕ} {x : Layout} {sums news : List ℕ} (d : Lent ls rows x sums news) {r : ℕ} (low : 1 ≤ r) (high : r ≤ mostRounds) where
   begin : begins x r ≡ below r ls
   begin = ap (λ t. getD t r 0) (d .laid .starts) ∙ getD-tabulate (mostRounds + 2) (λ t. below t ls) r (omega arith)
@@ -143,10 +149,10 @@ module _ {ls : List Lift} {rows : List ℕ} {x : Layout} {sums news : List ℕ} 
   sum-is t h = ap (λ s. getD s t 0) (d .old-sums) ∙ getD-tabulate (mostRounds + 1) _ t (omega arith)
 
   -- and so are its sums
-  pub sums-are : {y : Sums} → y ≡ record { new = getD news r 0; first = getD (x .sent) (3 * r + 1) 0; second = getD (x .sent) (3 * r + 2) 0 }
-      → y ≡ sumsOf (liftsOfRows (partOf x r rows))
+  pub sums-are : (ds : Donors) {y : Sums} → y ≡ record { new = getD news r 0; first = getD (x .sent) (3 * r + 1) 0; second = getD (x .sent) (3 * r + 2) 0 }
+      → HasSums ds (liftsOfRows (partOf x r rows)) y
   unfolding liftsOf
-  sums-are e = e ∙ rw (lifts-are, S-round (d .fit) low high, U-by-number, U-by-number, ← d .laid .sent .part r 1 high (omega arith), ← d .laid .sent .part r 2 high (omega arith)) (ap (λ n. record { new = n; first = getD (x .sent) (3 * r + 1) 0; second = getD (x .sent) (3 * r + 2) 0 }) (ap (λ s. getD s r 0) (d .new-sums) ∙ getD-tabulate (mostRounds + 1) (λ t. sumOf New t ls) r (omega arith)))
+  sums-are ds e = has-sums ds (liftsOfRows (partOf x r rows)) (e ∙ rw (lifts-are, S-round (d .fit) low high, U-by-number, U-by-number, ← d .laid .sent .part r 1 high (omega arith), ← d .laid .sent .part r 2 high (omega arith)) (ap (λ n. record { new = n; first = getD (x .sent) (3 * r + 1) 0; second = getD (x .sent) (3 * r + 2) 0 }) (ap (λ s. getD s r 0) (d .new-sums) ∙ getD-tabulate (mostRounds + 1) (λ t. sumOf New t ls) r (omega arith))))
 
   -- the layout's two numbers tell its donors
   donors-told : donorsAt x r ≡ donors r ls

@@ -6,7 +6,7 @@ ghost use lib.ListN.{length, getD};
 ghost use Rattle.laws.specs.Pieces.{pieces};
 ghost use Rattle.round.specs.Choice.{selected};
 ghost use Rattle.round.specs.Share.{heldOf};
-ghost use Rattle.round.specs.Rows.{rowLength, lifts as liftsOfRows, Callable, sumsOf};
+ghost use Rattle.round.specs.Rows.{rowLength, lifts as liftsOfRows, Callable, HasSums};
 ghost use Rattle.sheet.specs.Sheet.{mostRounds, lifts as liftsOfSheet};
 ghost use Rattle.sheet.specs.Reading.{Legible};
 ghost use Rattle.sheet.specs.Tables.{Tabled};
@@ -187,7 +187,7 @@ fn choose_lift(
     at: usize,
 ) -> Step
     requires { ⌜ (0 < length (now rows) → Callable donors (liftsOfRows (now rows)) held) ⌝ }
-    requires { ⌜ sums ≡ sumsOf (liftsOfRows (now rows)) ⌝ }
+    requires { ⌜ HasSums donors (liftsOfRows (now rows)) sums ⌝ }
     ensures { λ r. ⌜ r ≡ stepOf (now (rows .entry)) (selected donors (liftsOfRows (now (rows .entry))) held (now (words .entry)) at) ⌝ }
 {
     if rows.len() == 0 {

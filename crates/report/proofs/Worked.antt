@@ -9,7 +9,7 @@ use Rattle.laws.specs.Sum.{total, totalBy}
 use Rattle.draw.specs.Draw.{drawFrom}
 use Rattle.draw.specs.Run.{run}
 use Rattle.round.specs.Round.{S, U, D, oldWeight, newWeight, weights, G}
-use Rattle.round.specs.Choice.{fresh, firstOdds, preliminary, stayOr, replacement, keyfitz, select, plan, outcome}
+use Rattle.round.specs.Choice.{drawPlace, firstOdds, preliminaryBy, stayOr, keyfitz, select, plan, outcome}
 use Rattle.sheet.specs.Sheet.{lifts}
 use Rattle.sheet.specs.Reading.{fault, readFrom}
 use Rattle.sheet.specs.Refusal.{firstRound, ofRounds, verdict}
@@ -19,5 +19,5 @@ use Rattle.report.specs.Report.{littleEndian, wordsOf, digits, decimal, 
 use Rattle.report.specs.Worked.{cases, right}
 
 pub all-right : allRight right cases ≡ true
-unfolding pick cut after total totalBy drawFrom run S U D oldWeight newWeight weights G fresh firstOdds preliminary stayOr replacement keyfitz select plan outcome lifts fault readFrom those sends ofRound firstRound ofRounds verdict donorsOf liftsOf heldAt heldIn planOf liftAt panelFrom reply littleEndian wordsOf digits decimal field line lines wordsLine refusedLine textOf report
+unfolding pick cut after total totalBy drawFrom run S U D oldWeight newWeight weights G drawPlace firstOdds preliminaryBy stayOr keyfitz select plan outcome lifts fault readFrom those sends ofRound firstRound ofRounds verdict donorsOf liftsOf heldAt heldIn planOf liftAt panelFrom reply littleEndian wordsOf digits decimal field line lines wordsLine refusedLine textOf report
 all-right = refl

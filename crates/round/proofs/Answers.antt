@@ -8,14 +8,14 @@ use lib.Dec.{ltb}
 use lib.ListN.{length}
 use borrow.Author.Tests.{lt-ltb, le-ltb, le-leb, lt-leb}
 use Rattle.laws.specs.Interval.{pick}
-use Rattle.laws.specs.Plan.{Plan, draw}
+use Rattle.laws.specs.Plan.{Plan, draw, after}
 use Rattle.draw.specs.Draw.{largest, drawAt}
 use Rattle.draw.specs.Run.{Run, finished, short, drew, run}
 use Rattle.draw.specs.declared.Drawn.{Drawn}
 use Rattle.draw.specs.declared.Drawn.the-variants.{Value, Short as Ended}
-use Rattle.round.specs.Round.{Weight, growth, G}
-use Rattle.round.specs.Choice.{Selection, selection, stayOr, replacement, keyfitz, plan, outcome, answer}
-use Rattle.round.specs.Rows.{scaled, scaleOf, wholly, Room, Balanced, Callable, drawGrowth, Contested, oneOf, preliminaryOf}
+use Rattle.round.specs.Round.{D, Weight, growth, G}
+use Rattle.round.specs.Choice.{Selection, noUnit, unitAt, selection, drawPlace, firstOdds, preliminaryBy, preliminary, stayOr, replacement, keyfitz, select, plan, outcome, proposed, answer}
+use Rattle.round.specs.Rows.{scaled, scaleOf, wholly, Room, Balanced, Callable, Contested}
 use Rattle.round.specs.declared.Donors.{Donors}
 use Rattle.round.specs.declared.Held.{Held}
 use Rattle.round.specs.declared.Held.the-variants.{Neither, Single, Both}
@@ -23,10 +23,10 @@ use Rattle.round.specs.declared.Lift.{Lift}
 use Rattle.round.specs.declared.Scale.{Scale}
 use Rattle.round.specs.declared.Selected.{Selected}
 use Rattle.round.specs.declared.Selected.the-variants.{At as Chosen, Short as None}
-use Rattle.round.specs.declared.Preliminary.{Preliminary}
-use Rattle.round.specs.declared.Preliminary.the-variants.{None as NoLift, At, Short}
+use Rattle.round.specs.declared.Proposed.{Proposed}
+use Rattle.round.specs.declared.Proposed.the-variants.{None as NoLift, At, Short}
 use Rattle.round.proofs.Loops.{Weighed, weight-at}
-use Rattle.round.proofs.Scales.{single-inside, both-inside, both-drawable, updatable, plan-neither, plan-single, plan-both}
+use Rattle.round.proofs.Scales.{single-inside, both-inside, both-drawable, updatable, fresh-scaled, select-scaled}
 
 drew-answer : (h : Held) (v : ℕ) (r : Run Selection) → answer h (drew v r) ≡ answer h r
 drew-answer h v (finished vs s next) = refl
@@ -46,13 +46,13 @@ module _ (m : ℕ) (ws : List ℕ) (from : ℕ) (h : Held) where
   -- ---- a draw below the sum of the growths
 
   pub drawn : (dropped : Bool) (wts : List Weight) {d : Drawn} {b q n p o : ℕ} → b ≡ G wts → d ≡ drawAt m ws from b → d ≡ Value q n
-      → p ≡ pick (map growth wts) q → o ≡ outcome h (selection p dropped) → Chosen p o n ≡ answer h (run m ws from (drawGrowth dropped wts))
-  unfolding drawGrowth run
+      → p ≡ pick (map growth wts) q → o ≡ outcome h (selection p dropped) → Chosen p o n ≡ answer h (run m ws from (drawPlace (G wts) (map growth wts) dropped))
+  unfolding drawPlace run
   drawn dropped wts g e f x y = rw (value-answer (G wts) (sym (rw g at e) ∙ f), ← x, y)
 
   pub drawn-short : (dropped : Bool) (wts : List Weight) {d : Drawn} {b : ℕ} → b ≡ G wts → d ≡ drawAt m ws from b → d ≡ Ended
-      → None ≡ answer h (run m ws from (drawGrowth dropped wts))
-  unfolding drawGrowth
+      → None ≡ answer h (run m ws from (drawPlace (G wts) (map growth wts) dropped))
+  unfolding drawPlace
   drawn-short dropped wts g e f = rw (short-answer (G wts) (sym (rw g at e) ∙ f))
 
   -- ---- Keyfitz's update
@@ -73,69 +73,41 @@ module _ (m : ℕ) (ws : List ℕ) (from : ℕ) (h : Held) where
 
       -- it is dropped by the draw r, and another takes its place
       pub moved : {r n : ℕ} {a : Selected} → d ≡ Value r n → l .new * s .new ≤ r
-          → a ≡ answer h (run m ws n (drawGrowth true (map (scaled s) ls)))
+          → a ≡ answer h (run m ws n (replacement (map (scaled s) ls)))
           → a ≡ answer h (run m ws from (keyfitz (map (scaled s) ls) i))
-      unfolding keyfitz stayOr replacement drawGrowth
+      unfolding keyfitz stayOr
       moved q k y = rw (weight-at w, lt-leb _ _ shrinks, value-answer _ (sym p ∙ q), le-ltb _ _ k) y
 
       pub update-short : d ≡ Ended → None ≡ answer h (run m ws from (keyfitz (map (scaled s) ls) i))
       unfolding keyfitz stayOr
       update-short q = rw (weight-at w, lt-leb _ _ shrinks, short-answer _ (sym p ∙ q))
 
--- ---- the choice of a round, by its preliminary lift
+-- ---- the preliminary lift
 
-module _ (ds : Donors) (ls : List Lift) {s : Scale} (scale : s ≡ scaleOf ds ls) (ws : List ℕ) (from : ℕ) where
-  -- what follows from it
-  abbrev follow : Held → Preliminary → Selected
-  follow h NoLift = answer h (run largest ws from (drawGrowth false (map (scaled wholly) ls)))
-  follow h (At i n) = answer h (run largest ws n (keyfitz (map (scaled s) ls) i))
-  follow h Short = None
+-- none, or the only one held here
+pub proposed-none : (b o : ℕ) (ws : List ℕ) (from : ℕ) {h : Held} → h ≡ Neither → NoLift ≡ proposed (run largest ws from (preliminaryBy b o h))
+unfolding preliminaryBy run
+proposed-none b o ws from e = rw e
 
-  -- is the round's choice
-  follows : (h : Held) → follow h (preliminaryOf s h ws from) ≡ answer h (run largest ws from (plan ds ls h))
-  follows Neither = rw (plan-neither ds ls)
-  follows (Single i) = rw (plan-single ds ls i, ← scale)
-  follows (Both i j) = rw (plan-both ds ls i j, ← scale) (go (drawAt largest ws from (s .new)) refl)
-    where
-      k : ℕ → Plan Selection
-      k v = keyfitz (map (scaled s) ls) (cond (ltb v (s .odds)) i j)
+pub proposed-single : (b o : ℕ) (ws : List ℕ) (from : ℕ) {h : Held} {i : ℕ} → h ≡ Single i → At i from ≡ proposed (run largest ws from (preliminaryBy b o h))
+unfolding preliminaryBy run
+proposed-single b o ws from e = rw e
 
-      go : (d : Drawn) → drawAt largest ws from (s .new) ≡ d → follow (Both i j) (oneOf s i j d) ≡ answer (Both i j) (run largest ws from (draw (s .new) k))
-      go (Value v n) e = sym (value-answer largest ws from (Both i j) (s .new) e k)
-      go Ended e = sym (short-answer largest ws from (Both i j) (s .new) e k)
+-- of two, the one that a draw says
+module _ (b o : ℕ) (ws : List ℕ) (from : ℕ) {h : Held} {i j : ℕ} (e : h ≡ Both i j) {d : Drawn} (f : d ≡ drawAt largest ws from b) where
+  proposed-drawn : {v n : ℕ} → d ≡ Value v n → At (cond (ltb v o) i j) n ≡ proposed (run largest ws from (preliminaryBy b o h))
+  unfolding preliminaryBy run
+  proposed-drawn q = rw (e, ← f, q)
 
-  -- it stands in the round
-  at-inside : (h : Held) → Callable ds ls h → {i n : ℕ} → At i n ≡ preliminaryOf s h ws from → i < length ls
-  at-inside Neither c e = let z : _≡_ {A = ℕ} 0 1 = cc in absurd (omega arith)
-  at-inside (Single a) c {i} e = let q : i ≡ a = cc in rw q (single-inside refl c)
-  at-inside (Both a b) c {i} {n} e = go (drawAt largest ws from (s .new)) e
-    where
-      go : (d : Drawn) → At i n ≡ oneOf s a b d → i < length ls
-      go (Value v l) e = one (ltb v (s .odds)) (let q : i ≡ cond (ltb v (s .odds)) a b = cc in q)
-        where
-          one : (t : Bool) → i ≡ cond t a b → i < length ls
-          one true q = rw q (both-inside c .0)
-          one false q = rw q (both-inside c .1)
-      go Ended e = let z : _≡_ {A = ℕ} 0 1 = cc in absurd (omega arith)
+  pub proposed-first : {v n : ℕ} → d ≡ Value v n → v < o → At i n ≡ proposed (run largest ws from (preliminaryBy b o h))
+  proposed-first q l = rw (lt-ltb _ _ l) at (proposed-drawn q)
 
-  module _ (h : Held) {p : Preliminary} (e : p ≡ preliminaryOf s h ws from) where
-    followed : follow h p ≡ answer h (run largest ws from (plan ds ls h))
-    followed = ap (follow h) e ∙ follows h
+  pub proposed-second : {v n : ℕ} → d ≡ Value v n → o ≤ v → At j n ≡ proposed (run largest ws from (preliminaryBy b o h))
+  proposed-second q l = rw (le-ltb _ _ l) at (proposed-drawn q)
 
-    pub on-none : {a : Selected} → p ≡ NoLift → a ≡ answer h (run largest ws from (drawGrowth false (map (scaled wholly) ls)))
-        → a ≡ answer h (run largest ws from (plan ds ls h))
-    on-none q x = x ∙ (rw q at followed)
-
-    pub on-place : {a : Selected} {i n : ℕ} → p ≡ At i n → a ≡ answer h (run largest ws n (keyfitz (map (scaled s) ls) i))
-        → a ≡ answer h (run largest ws from (plan ds ls h))
-    on-place q x = x ∙ (rw q at followed)
-
-    pub on-short : p ≡ Short → None ≡ answer h (run largest ws from (plan ds ls h))
-    on-short q = rw q at followed
-
-    -- the update can be made
-    pub on-place-fits : {i n : ℕ} → Callable ds ls h → p ≡ At i n → Room s ls × (Balanced s ls × (i < length ls))
-    on-place-fits c q = updatable scale c (at-inside h c (sym q ∙ e))
+  pub proposed-short : d ≡ Ended → Short ≡ proposed (run largest ws from (preliminaryBy b o h))
+  unfolding preliminaryBy run
+  proposed-short q = rw (e, ← f, q)
 
 -- where both are held here, there is something to draw below
 pub contested : {ds : Donors} {ls : List Lift} {s : Scale} (h : Held) → s ≡ scaleOf ds ls → Callable ds ls h → Contested s h
@@ -143,13 +115,82 @@ contested Neither e c = tt
 contested (Single i) e c = tt
 contested (Both i j) e c = both-drawable e c
 
--- which of two it is
-module _ (s : Scale) (ws : List ℕ) (from : ℕ) {h : Held} {i j : ℕ} (e : h ≡ Both i j) {d : Drawn} (f : d ≡ drawAt largest ws from (s .new)) where
-  pub drawn-first : {v n : ℕ} → d ≡ Value v n → v < s .odds → At i n ≡ preliminaryOf s h ws from
-  drawn-first q l = rw (e, ← f, q, lt-ltb _ _ l)
+-- ---- the choice of a round, by its preliminary lift
 
-  pub drawn-second : {v n : ℕ} → d ≡ Value v n → s .odds ≤ v → At j n ≡ preliminaryOf s h ws from
-  drawn-second q l = rw (e, ← f, q, le-ltb _ _ l)
+plan-neither : (ds : Donors) (ls : List Lift) → plan ds ls Neither ≡ select ds ls noUnit
+unfolding plan preliminaryBy after
+plan-neither ds ls = refl
 
-  pub drawn-neither : d ≡ Ended → Short ≡ preliminaryOf s h ws from
-  drawn-neither q = rw (e, ← f, q)
+plan-single : (ds : Donors) (ls : List Lift) (i : ℕ) → plan ds ls (Single i) ≡ select ds ls (unitAt i)
+unfolding plan preliminaryBy after
+plan-single ds ls i = refl
+
+plan-both : (ds : Donors) (ls : List Lift) (i j : ℕ) → plan ds ls (Both i j) ≡ draw (D ds ls) (λ v. select ds ls (unitAt (cond (ltb v (firstOdds ds ls)) i j)))
+unfolding plan preliminaryBy after
+plan-both ds ls i j = refl
+
+module _ (ds : Donors) (ls : List Lift) (ws : List ℕ) (from : ℕ) where
+  -- what follows from it
+  abbrev follow : Held → Proposed → Selected
+  follow h NoLift = answer h (run largest ws from (select ds ls noUnit))
+  follow h (At i n) = answer h (run largest ws n (select ds ls (unitAt i)))
+  follow h Short = None
+
+  -- is the round's choice
+  follows : (h : Held) → follow h (proposed (run largest ws from (preliminary ds ls h))) ≡ answer h (run largest ws from (plan ds ls h))
+  follows Neither = rw (plan-neither ds ls, ← proposed-none (D ds ls) (firstOdds ds ls) ws from refl)
+  follows (Single i) = rw (plan-single ds ls i, ← proposed-single (D ds ls) (firstOdds ds ls) ws from {i = i} refl)
+  follows (Both i j) = rw (plan-both ds ls i j) (go (drawAt largest ws from (D ds ls)) refl)
+    where
+      k : ℕ → Plan Selection
+      k v = select ds ls (unitAt (cond (ltb v (firstOdds ds ls)) i j))
+
+      go : (d : Drawn) → d ≡ drawAt largest ws from (D ds ls)
+          → follow (Both i j) (proposed (run largest ws from (preliminary ds ls (Both i j)))) ≡ answer (Both i j) (run largest ws from (draw (D ds ls) k))
+      go (Value v n) e =
+          rw (← proposed-drawn (D ds ls) (firstOdds ds ls) ws from {i = i} {j = j} refl e refl) (sym (value-answer largest ws from (Both i j) (D ds ls) (sym e) k))
+      go Ended e =
+          rw (← proposed-short (D ds ls) (firstOdds ds ls) ws from {i = i} {j = j} refl e refl) (sym (short-answer largest ws from (Both i j) (D ds ls) (sym e) k))
+
+  -- it stands in the round
+  at-inside : (h : Held) → Callable ds ls h → {i n : ℕ} → At i n ≡ proposed (run largest ws from (preliminary ds ls h)) → i < length ls
+  at-inside Neither c e =
+      let z : _≡_ {A = Proposed} _ _ = proposed-none (D ds ls) (firstOdds ds ls) ws from refl ∙ sym e in
+      let z : _≡_ {A = ℕ} 0 1 = cc in absurd (omega arith)
+  at-inside (Single a) c {i} e =
+      let z = proposed-single (D ds ls) (firstOdds ds ls) ws from {i = a} refl ∙ sym e in
+      let q : i ≡ a = cc in rw q (single-inside refl c)
+  at-inside (Both a b) c {i} {n} e = go (drawAt largest ws from (D ds ls)) refl
+    where
+      go : (d : Drawn) → d ≡ drawAt largest ws from (D ds ls) → i < length ls
+      go (Value v l) f = one (ltb v (firstOdds ds ls)) (let z = proposed-drawn (D ds ls) (firstOdds ds ls) ws from {i = a} {j = b} refl f refl ∙ sym e in let q : i ≡ cond (ltb v (firstOdds ds ls)) a b = cc in q)
+        where
+          one : (t : Bool) → i ≡ cond t a b → i < length ls
+          one true q = rw q (both-inside c .0)
+          one false q = rw q (both-inside c .1)
+      go Ended f =
+          let z = proposed-short (D ds ls) (firstOdds ds ls) ws from {i = a} {j = b} refl f refl ∙ sym e in
+          let z : _≡_ {A = ℕ} 0 1 = cc in absurd (omega arith)
+
+  module _ {s : Scale} (scale : s ≡ scaleOf ds ls) (h : Held) {p : Proposed} (e : p ≡ proposed (run largest ws from (preliminaryBy (s .new) (s .odds) h))) where
+    by-round : p ≡ proposed (run largest ws from (preliminary ds ls h))
+    by-round = rw scale at e
+
+    followed : follow h p ≡ answer h (run largest ws from (plan ds ls h))
+    followed = ap (follow h) by-round ∙ follows h
+
+    pub on-none : {a : Selected} → p ≡ NoLift → a ≡ answer h (run largest ws from (drawPlace (G (map (scaled wholly) ls)) (map growth (map (scaled wholly) ls)) false))
+        → a ≡ answer h (run largest ws from (plan ds ls h))
+    unfolding select
+    on-none q x = rw (← fresh-scaled ls) at x ∙ (rw q at followed)
+
+    pub on-place : {a : Selected} {i n : ℕ} → p ≡ At i n → a ≡ answer h (run largest ws n (keyfitz (map (scaled s) ls) i))
+        → a ≡ answer h (run largest ws from (plan ds ls h))
+    on-place {i = i} q x = rw (scale, ← select-scaled ds ls i) at x ∙ (rw q at followed)
+
+    pub on-short : p ≡ Short → None ≡ answer h (run largest ws from (plan ds ls h))
+    on-short q = rw q at followed
+
+    -- the update can be made
+    pub on-place-fits : {i n : ℕ} → Callable ds ls h → p ≡ At i n → Room s ls × (Balanced s ls × (i < length ls))
+    on-place-fits c q = updatable scale c (at-inside h c (sym q ∙ by-round))

@@ -16,7 +16,7 @@ use Rattle.laws.proofs.Sums.{over-ext, Σ-mono, Σ-mul, Σ-map, Σ-term}
 use Rattle.laws.proofs.Fractions.{≈-refl, ≈-sym, ≈-trans, ≲-≈, ≈-num, ⊕-same, ⊗-≈, sum-≈}
 use Rattle.laws.proofs.Masses.{weighed}
 use Rattle.round.specs.Round.{liftAt, S, sent, U, D, oldWeight, Weight, weights, weightAt, G, Fitting}
-use Rattle.round.specs.Choice.{Selection, fresh, preliminary, keyfitz, select, plan, isHeld}
+use Rattle.round.specs.Choice.{Selection, fresh, preliminaryBy, keyfitz, select, plan, isHeld}
 use Rattle.round.specs.Share.{overInitial, overHeld, chooses}
 use Rattle.round.specs.Keep.{kept, Coupling, tickets, keptTickets, Attained, smaller, Best, KeepsTheorem}
 use Rattle.round.specs.declared.Donors.the-variants.{One}
@@ -99,7 +99,7 @@ best-≈ e b =
 
 module _ (T : ℕ) (ls : List Lift) (f : Fitting (One T) ls) (whole : U 1 ls ≡ T) where
   keeps-here : (i : ℕ) → i < length ls → weight (λ s. isHeld (Single i) (s .place)) (paths (plan (One T) ls (Single i))) ≈ mass (chooses i) (keyfitz (weights (One T) ls) i)
-  unfolding plan preliminary after select
+  unfolding plan preliminaryBy after select
   keeps-here i l =
       rw (fun-ext {f = λ (s : Selection). eqb i (s .place)} {g = chooses i} (λ s. eqb-comm i (s .place)))
       (weighed (chooses i) (keyfitz (weights (One T) ls) i) (every-update (One T) ls (f .positive) (one-positive (f .donate)) i l) .agree)
@@ -116,7 +116,7 @@ module _ (T : ℕ) (ls : List Lift) (f : Fitting (One T) ls) (whole : U 1 ls ≡
 
   -- no held lift is elsewhere
   elsewhere-part : (T - U 1 ls) // T ⊗ weight (λ s. isHeld Neither (s .place)) (paths (plan (One T) ls Neither)) ≈ 0 // (D (One T) ls * S ls)
-  unfolding plan preliminary after select
+  unfolding plan preliminaryBy after select
   elsewhere-part =
       let d = weighed (λ s. isHeld Neither (s .place)) (fresh ls) (every-fresh ls (f .positive)) .agree .left in
       let e : T - U 1 ls ≡ 0 = omega arith in let p : 0 < T = rw (← whole) (f .donate .some) in

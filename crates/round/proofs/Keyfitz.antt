@@ -18,7 +18,7 @@ use Rattle.laws.proofs.Intervals.{pick-some}
 use Rattle.laws.proofs.Fractions.{≈-refl, ⊗-≈, ⊗-part, cancel, sum-same}
 use Rattle.laws.proofs.Masses.{mass-even, mass-hits}
 use Rattle.round.specs.Round.{Weight, weightAt, growth, G}
-use Rattle.round.specs.Choice.{selection, stayOr, replacement, keyfitz}
+use Rattle.round.specs.Choice.{selection, drawPlace, stayOr, keyfitz}
 use Rattle.round.specs.Share.{chooses}
 use Rattle.round.specs.Keep.{smaller}
 use Rattle.round.proofs.Weights.{loss, losses, dropped-G}
@@ -62,7 +62,7 @@ passes ws H j i = smaller (weightAt ws i) * (indicator (eqb i j) * H) + loss (we
 
 pub unit : (ws : List Weight) (i j N H : ℕ) → j < length ws → 0 < N → 0 < H → (weightAt ws i .new < weightAt ws i .old → G ws ≡ H)
     → weightAt ws i .old // N ⊗ mass (chooses j) (keyfitz ws i) ≈ passes ws H j i // (N * H)
-unfolding keyfitz mass replacement G
+unfolding keyfitz mass drawPlace G
 unit ws i j N H u p q h =
     mass-stayOr (chooses j) (done (selection i false)) _ (weightAt ws i) N H p q (record { cross = omega arith; left = omega arith; right = q })
     (λ l. let g : getD (map growth ws) j 0 ≡ growth (weightAt ws j) = List·getD-map growth ws j none in
@@ -137,13 +137,13 @@ module _ (ws : List Weight) (N : ℕ) (p : 0 < N) (e : total (map (λ w. w .old)
 
   -- every unit that may be preliminary has its update
   pub drawable : (i : ℕ) → i < length ws → Drawable (keyfitz ws i)
-  unfolding Every keyfitz replacement
+  unfolding Every keyfitz drawPlace
   drawable i l =
       every-stayOr (λ _. Unit {0}) (weightAt ws i) (done (selection i false)) _ (λ _. tt) (λ _. tt) (λ m. (dropped-G ws i (e ∙ sym f) l m, λ _ _. tt))
 
   -- from a unit of old weight above 0 the update leads to one of new weight above 0
   pub arrival : (i : ℕ) → 0 < weightAt ws i .old → i < length ws → Every (λ s. 0 < weightAt ws (s .place) .new) (keyfitz ws i)
-  unfolding Every keyfitz replacement G
+  unfolding Every keyfitz drawPlace G
   arrival i o l =
       every-stayOr (λ s. 0 < weightAt ws (s .place) .new) (weightAt ws i) (done (selection i false)) _ (λ m. omega arith) (λ m. m)
       (λ m. (dropped-G ws i (e ∙ sym f) l m, λ q k. grown (pick (map growth ws) q) (pick-some (map growth ws) q k)))

@@ -13,7 +13,7 @@ use Rattle.laws.proofs.Intervals.{pick-some}
 use Rattle.laws.proofs.Fractions.{pos-left}
 use Rattle.laws.proofs.Masses.{every-map}
 use Rattle.round.specs.Round.{liftAt, S, D, Weight, oldWeight, newWeight, weights, weightAt, Fitting}
-use Rattle.round.specs.Choice.{Selection, Preliminary, noUnit, unitAt, fresh, firstOdds, preliminary, stayOr, replacement, keyfitz, select, plan, isHeld, outcome}
+use Rattle.round.specs.Choice.{Selection, Preliminary, noUnit, unitAt, drawPlace, fresh, firstOdds, preliminaryBy, stayOr, keyfitz, select, plan, isHeld, outcome}
 use Rattle.round.specs.Rows.{Bounded, Stands}
 use Rattle.round.specs.Law.{Small, Weighty, LawsTheorem}
 use Rattle.round.specs.declared.Donors.{Donors}
@@ -56,16 +56,16 @@ within-stayOr n w stay move u v =
     (λ r _. within-cond n (ltb r (w .new)) stay move u v)
 
 within-keyfitz : (ws : List Weight) (i : ℕ) → Within 2 (keyfitz ws i)
-unfolding Within keyfitz replacement
+unfolding Within keyfitz drawPlace
 within-keyfitz ws i = within-stayOr 1 (weightAt ws i) _ _ tt (λ q _. tt)
 
 within-select : (ds : Donors) (ls : List Lift) (a : Preliminary) → Within 2 (select ds ls a)
-unfolding Within select fresh
+unfolding Within select drawPlace
 within-select ds ls noUnit = λ v l. tt
 within-select ds ls (unitAt i) = within-keyfitz (weights ds ls) i
 
 three : (ds : Donors) (ls : List Lift) (h : Held) → Within 3 (plan ds ls h)
-unfolding Within plan preliminary after
+unfolding Within plan preliminaryBy after
 three ds ls Neither = within-more 2 (select ds ls noUnit) (within-select ds ls noUnit)
 three ds ls (Single i) = within-more 2 (select ds ls (unitAt i)) (within-select ds ls (unitAt i))
 three ds ls (Both i j) = λ v l. within-select ds ls (unitAt (cond (ltb v (firstOdds ds ls)) i j))
@@ -73,7 +73,7 @@ three ds ls (Both i j) = λ v l. within-select ds ls (unitAt (cond (ltb v (first
 -- ---- every draw has a value
 
 drawable : (ds : Donors) (ls : List Lift) → Fitting ds ls → (h : Held) → Stands ds h (length ls) → Drawable (plan ds ls h)
-unfolding plan preliminary after select
+unfolding plan preliminaryBy after select
 drawable None ls f Neither s = every-fresh ls (f .positive)
 drawable None ls f (Single i) s = absurd s
 drawable None ls f (Both i j) s = absurd s
@@ -107,7 +107,7 @@ module _ (ds : Donors) (ls : List Lift) (p : 0 < S ls) where
   whole i h = omega (arith, map-le (λ w. w .old) none (weights ds ls) i (weight-in (weights ds ls) i h), old-sum ds ls)
 
   chosen-fresh : Every (λ s. 0 < liftAt ls (s .place) .new) (fresh ls)
-  unfolding Every fresh S
+  unfolding Every drawPlace S
   chosen-fresh = (p, λ q l. let e = List·getD-map (λ x. x .new) ls (pick (map (λ x. x .new) ls) q) (record { old = 0; donor = 0; new = 0 }) in omega (arith, pick-some (map (λ x. x .new) ls) q l))
 
   chosen-update : (i : ℕ) → 0 < weightAt (weights ds ls) i .old → Every (λ s. 0 < liftAt ls (s .place) .new) (keyfitz (weights ds ls) i)
@@ -116,7 +116,7 @@ module _ (ds : Donors) (ls : List Lift) (p : 0 < S ls) where
       (arrival (weights ds ls) (D ds ls * S ls) (whole i h) (old-sum ds ls) (new-sum ds ls) i h (weight-in (weights ds ls) i h))
 
   chosen : (h : Held) → Weighty ds ls h → Every (λ s. 0 < liftAt ls (s .place) .new) (plan ds ls h)
-  unfolding Every plan preliminary after select
+  unfolding Every plan preliminaryBy after select
   chosen Neither w = chosen-fresh
   chosen (Single i) w = chosen-update i w
   chosen (Both i j) w = (pos-left (D ds ls) (S ls) (whole i (w .0)), λ v _. go (ltb v (firstOdds ds ls)))

@@ -19,11 +19,11 @@ use Rattle.laws.proofs.Lists.{slice-lent}
 use Rattle.laws.proofs.Sums.{total-map, total-cut, map-le}
 use Rattle.laws.proofs.Intervals.{pick-here, pick-beyond, pick-within, pick-past, pick-lt}
 use Rattle.laws.proofs.Pieces.{length-pieces, piece-inside, piece-element}
-use Rattle.round.specs.Round.{liftAt, Weight, weightAt, growth, G}
+use Rattle.round.specs.Round.{liftAt, U, sent, Weight, weightAt, growth, G}
 use Rattle.round.specs.Rows.{lift, rowLength, liftOf, lifts, multiplierOf, scaled, Room, LiftRoom, Balanced, blockLength, blockEnd}
 use Rattle.round.specs.declared.Lift.{Lift}
 use Rattle.round.specs.declared.Scale.{Scale}
-use Rattle.round.proofs.Weights.{dropped-G, G-le}
+use Rattle.round.proofs.Weights.{U-sum, dropped-G, G-le}
 
 -- ---- the lifts of the rows
 
@@ -69,6 +69,9 @@ module _ {f : Lift → ℕ} {ls : List Lift} {e i w : ℕ} {x : Lift} (n : e ≤
 pub sum-end : {f : Lift → ℕ} {ls : List Lift} {e i whole sum : ℕ} → e ≤ i → Summed f ls e whole sum i → sum ≡ whole
 unfolding total
 sum-end {ls} {e} {i} h d = let none : e - i ≡ 0 = omega arith in omega (arith, rw (← slice-lent i e ls, none) at (d .same))
+
+pub came-none : (k : ℕ) (ls : List Lift) {n : ℕ} → n ≡ length ls → Summed (sent k) ls n (U k ls) 0 0
+came-none k ls c = sum-none (rw (c, slice-all ls, U-sum))
 
 -- ---- the lifts of a block, gathered in an array
 

@@ -15,7 +15,7 @@ use Rattle.laws.proofs.Sums.{over-ext, Σ-add, Σ-mul, Σ-step, Σ-one}
 use Rattle.laws.proofs.Fractions.{≈-refl, ≈-trans, ≈-num}
 use Rattle.laws.proofs.Masses.{mass-even}
 use Rattle.round.specs.Round.{liftAt, S, sent, U, D, oldWeight, Sends}
-use Rattle.round.specs.Choice.{Preliminary, noUnit, unitAt, preliminary, firstOdds}
+use Rattle.round.specs.Choice.{Preliminary, noUnit, unitAt, firstOdds, preliminaryBy, preliminary}
 use Rattle.laws.specs.Initial.{here, elsewhere}
 use Rattle.round.specs.Share.{heldOf, overInitial, overHeld}
 use Rattle.round.specs.declared.Donors.{Donors}
@@ -64,7 +64,7 @@ two-identity U₁ E₁ U₂ E₂ C₁ C₂ z T₁ T₂ e f = rw (e, f) (omega ar
 
 module _ (ls : List Lift) (t : Preliminary → Bool) (c : ℕ → ℕ) (z : ℕ) (hc : (a : ℕ) → a < length ls → indicator (t (unitAt a)) ≡ c a) (hz : indicator (t noUnit) ≡ z) where
   one-mass : (T : ℕ) → 0 < T → overHeld (One T) ls (λ h. mass t (preliminary (One T) ls h)) ≈ (passing 1 ls c + (T - U 1 ls) * z) // (T * 1)
-  unfolding overHeld preliminary mass passing
+  unfolding overHeld preliminaryBy mass passing
   one-mass T p =
       initial-same 1 T ls p (λ x. mass t (preliminary (One T) ls (heldOf x elsewhere))) {x = c} {y = z} {R = 1} (omega arith) (λ i l. rw (hc i l) (≈-refl (omega arith))) (rw hz (≈-refl (omega arith)))
 
@@ -72,7 +72,7 @@ module _ (ls : List Lift) (t : Preliminary → Bool) (c : ℕ → ℕ) (z : ℕ)
     two-mass : overHeld (Two T₁ T₂) ls (λ h. mass t (preliminary (Two T₁ T₂) ls h))
         ≈ ((U 1 ls * T₂ + U 2 ls * (T₁ - U 1 ls)) * (T₂ * passing 1 ls c + T₁ * passing 2 ls c) + (T₁ - U 1 ls) * (T₂ - U 2 ls) * z * (U 1 ls * T₂ + U 2 ls * T₁))
         // (T₁ * (T₂ * (U 1 ls * T₂ + U 2 ls * T₁)))
-    unfolding overHeld preliminary mass D firstOdds
+    unfolding overHeld preliminaryBy mass D firstOdds
     two-mass =
         let u₁ = U 1 ls in let u₂ = U 2 ls in let E₁ : ℕ = T₁ - u₁ in let E₂ : ℕ = T₂ - u₂ in
         let C₁ = passing 1 ls c in let C₂ = passing 2 ls c in

@@ -1,5 +1,5 @@
 -- The code's multipliers give the weights of the round, or let each lift grow by its whole new measure; and all of it has room.
-use Prim.Native.Nat.{ℕ, _+_, _*_, _≤_, _<_}
+use Prim.Native.Nat.{ℕ, _+_, _*_, _^_, _≤_, _<_}
 use mathlib.Core.Path.{_≡_, refl, ap, ap₂, fun-ext, _∙_}
 use mathlib.Core.Bool.{Bool, true, false, cond}
 use mathlib.Core.List.{List, [], _∷_, map, map-map}
@@ -8,14 +8,13 @@ use native.Mathlib.Omega.{arith}
 use lib.ListN.{length}
 use mir.Val.{Fits}
 use mir.Syntax.{w64}
-use lib.Dec.{ltb, eqb}
+use lib.Dec.{eqb}
 use borrow.Author.Tests.{eqb-true}
 use Rattle.laws.specs.Sum.{total}
-use Rattle.laws.specs.Plan.{draw, after}
 use Rattle.laws.proofs.Sums.{total-map, total-mul}
-use Rattle.round.specs.Round.{S, sent, D, oldWeight, newWeight, Weight, weights, growth, G, Fitting}
-use Rattle.round.specs.Choice.{fresh, firstOdds, preliminary, keyfitz, select, plan}
-use Rattle.round.specs.Rows.{sumsOf, Multipliable, scaled, scaleBy, scaleOf, wholly, Room, Balanced, capacity, Bounded, Stands, Callable, drawGrowth}
+use Rattle.round.specs.Round.{S, U, sent, D, oldWeight, newWeight, Weight, weights, growth, G, Fitting}
+use Rattle.round.specs.Choice.{unitAt, drawPlace, fresh, firstOdds, keyfitz, select}
+use Rattle.round.specs.Rows.{HasSums, Multipliable, scaled, scaleOf, wholly, Room, Balanced, capacity, Bounded, Stands, Callable}
 use Rattle.round.specs.declared.Donors.{Donors}
 use Rattle.round.specs.declared.Donors.the-variants.{None, One, Two}
 use Rattle.round.specs.declared.Held.{Held}
@@ -38,27 +37,15 @@ multiplied s l = go (l .donor) (eqb (l .donor) 1) refl (eqb (l .donor) 2) refl
     go d false e false f = omega arith
 
 old-scaled : (ds : Donors) (ls : List Lift) (l : Lift) → oldWeight ds ls l ≡ scaled (scaleOf ds ls) l .old
-unfolding oldWeight scaleBy
+unfolding oldWeight
 old-scaled None ls l = omega (arith, multiplied (scaleOf None ls) l)
 old-scaled (One T) ls l = omega (arith, multiplied (scaleOf (One T) ls) l)
 old-scaled (Two T₁ T₂) ls l = omega (arith, multiplied (scaleOf (Two T₁ T₂) ls) l)
 
-D-scale : (ds : Donors) (ls : List Lift) → D ds ls ≡ scaleOf ds ls .new
-unfolding D scaleBy
-D-scale None ls = refl
-D-scale (One T) ls = refl
-D-scale (Two T₁ T₂) ls = refl
-
-odds-scale : (ds : Donors) (ls : List Lift) → firstOdds ds ls ≡ scaleOf ds ls .odds
-unfolding firstOdds scaleBy
-odds-scale None ls = refl
-odds-scale (One T) ls = refl
-odds-scale (Two T₁ T₂) ls = refl
-
 weights-scaled : (ds : Donors) (ls : List Lift) → weights ds ls ≡ map (scaled (scaleOf ds ls)) ls
 unfolding weights newWeight
 weights-scaled ds ls =
-    ap (λ f. map f ls) (fun-ext (λ l. ap₂ (λ m b. record { old = m; new = b }) (old-scaled ds ls l) (ap (λ d. l .new * d) (D-scale ds ls))))
+    ap (λ f. map f ls) (fun-ext (λ l. ap (λ m. record { old = m; new = l .new * D ds ls }) (old-scaled ds ls l)))
 
 -- a sum over the weights
 scaled-sum : (ds : Donors) (ls : List Lift) (f : Weight → ℕ) → total (map f (weights ds ls)) ≡ total (map (λ l. f (scaled (scaleOf ds ls) l)) ls)
@@ -116,11 +103,50 @@ module _ {ds : Donors} {T₁ T₂ : ℕ} (t : Sums) (e : ds ≡ Two T₁ T₂) (
   pub second-times : Fits w64 (T₂ * t .new)
   second-times = omega (arith, mul-le-mul (small .0 .1) (small .1 .0))
 
-pub multipliable : (ds : Donors) {ls : List Lift} {t : Sums} → t ≡ sumsOf ls → Fitting ds ls → Bounded ds ls → Multipliable ds t
-multipliable None e f b = tt
-multipliable (One T) e f b = tt
-multipliable (Two T₁ T₂) e f b =
-    rw e (b .old, (b .new, omega (arith, f .donate .0 .part, b .old .0), omega (arith, f .donate .1 .part, b .old .1)))
+pub multipliable : (ds : Donors) {ls : List Lift} (t : Sums) → HasSums ds ls t → Fitting ds ls → Bounded ds ls → Multipliable ds t
+multipliable None t e f b = tt
+multipliable (One T) t e f b = tt
+multipliable (Two T₁ T₂) t e f b =
+    (b .old, (omega (arith, e .0, b .new), omega (arith, e .1, f .donate .0 .part, b .old .0), omega (arith, e .2, f .donate .1 .part, b .old .1)))
+
+scales : {d x y u v o : ℕ} → x ≡ u → y ≡ v → _≡_ {A = Scale} (record { new = d; first = x; second = y; odds = o }) (record { new = d; first = u; second = v; odds = o })
+scales {d} {o = o} = ap₂ (λ a b. record { new = d; first = a; second = b; odds = o })
+
+-- the multipliers from the sums of a round
+module _ {ds : Donors} (t : Sums) (ls : List Lift) (u : HasSums ds ls t) where
+  pub scale-none : ds ≡ None → _≡_ {A = Scale} (record { new = 0; first = 0; second = 0; odds = 0 }) (scaleOf ds ls)
+  unfolding D oldWeight firstOdds
+  scale-none e = rw e
+
+  pub scale-one : {T : ℕ} → ds ≡ One T → _≡_ {A = Scale} (record { new = t .first; first = t .new; second = 0; odds = 0 }) (scaleOf ds ls)
+  unfolding D oldWeight firstOdds
+  scale-one e = let k = rw e at u in rw (e, k .0, k .1) (scales (omega arith) (omega arith))
+
+  pub scale-two : {T₁ T₂ : ℕ} → ds ≡ Two T₁ T₂ → _≡_ {A = Scale} (record { new = t .first * T₂ + t .second * T₁; first = T₂ * t .new; second = T₁ * t .new; odds = t .second * T₁ }) (scaleOf ds ls)
+  unfolding D oldWeight firstOdds
+  scale-two e = let k = rw e at u in rw (e, k .0, k .1, k .2) (scales (omega arith) (omega arith))
+
+-- what came from a donor has room
+module _ {ds : Donors} {ls : List Lift} (f : Fitting ds ls) (b : Bounded ds ls) where
+  pub one-came : {T : ℕ} → ds ≡ One T → U 1 ls ≤ 2 ^ 61
+  one-came e = let g = rw e at f in let c = rw e at b in omega (arith, g .donate .part, c .old)
+
+  pub first-came : {T₁ T₂ : ℕ} → ds ≡ Two T₁ T₂ → U 1 ls ≤ 2 ^ 61
+  first-came e = let g = rw e at f in let c = rw e at b in omega (arith, g .donate .0 .part, c .old .0)
+
+  pub second-came : {T₁ T₂ : ℕ} → ds ≡ Two T₁ T₂ → U 2 ls ≤ 2 ^ 61
+  second-came e = let g = rw e at f in let c = rw e at b in omega (arith, g .donate .1 .part, c .old .1)
+
+-- the sums of a round, from S as the sum of the whole growths
+pub none-summed : {ds : Donors} (ls : List Lift) (t : Sums) → ds ≡ None → HasSums ds ls t
+none-summed ls t e = rw e tt
+
+module _ {ds : Donors} (ls : List Lift) {n : ℕ} (w : n ≡ G (map (scaled wholly) ls)) where
+  pub one-summed : {T u : ℕ} → ds ≡ One T → u ≡ U 1 ls → HasSums ds ls (record { new = n; first = u; second = 0 })
+  one-summed e x = rw e (w ∙ whole-G ls, x)
+
+  pub two-summed : {T₁ T₂ u v : ℕ} → ds ≡ Two T₁ T₂ → u ≡ U 1 ls → v ≡ U 2 ls → HasSums ds ls (record { new = n; first = u; second = v })
+  two-summed e x y = rw e (w ∙ whole-G ls, x, y)
 
 -- ---- what a caller shows
 
@@ -143,13 +169,13 @@ both-inside {D} {ls} {i} {j} c = go D (c .stands)
     go (Two T₁ T₂) s = s
 
 -- both are here only with two donors, so there is something to draw below
-both-D : (D : Donors) (ls : List Lift) {i j : ℕ} → Callable D ls (Both i j) → 0 < scaleOf D ls .new
+both-D : (ds : Donors) (ls : List Lift) {i j : ℕ} → Callable ds ls (Both i j) → 0 < D ds ls
 both-D None ls c = absurd (c .stands)
 both-D (One T) ls c = absurd (c .stands)
-both-D (Two T₁ T₂) ls c = let d = c .fitting .donate in rw (← D-scale (Two T₁ T₂) ls) (two-positive (d .0) (d .1))
+both-D (Two T₁ T₂) ls c = let d = c .fitting .donate in two-positive (d .0) (d .1)
 
-pub both-drawable : {D : Donors} {ls : List Lift} {s : Scale} {i j : ℕ} → s ≡ scaleOf D ls → Callable D ls (Both i j) → 1 ≤ s .new
-both-drawable {D} {ls} e c = rw e (both-D D ls c)
+pub both-drawable : {ds : Donors} {ls : List Lift} {s : Scale} {i j : ℕ} → s ≡ scaleOf ds ls → Callable ds ls (Both i j) → 1 ≤ s .new
+both-drawable {ds} {ls} e c = rw e (both-D ds ls c)
 
 -- all that an update asks
 pub updatable : {D : Donors} {ls : List Lift} {s : Scale} {h : Held} {i : ℕ} → s ≡ scaleOf D ls → Callable D ls h → i < length ls
@@ -158,15 +184,9 @@ updatable {D} e c k = (scale-room e (c .fitting) (c .bounded), (scale-balanced D
 
 -- ---- the choice by the multipliers
 
-pub plan-neither : (ds : Donors) (ls : List Lift) → plan ds ls Neither ≡ drawGrowth false (map (scaled wholly) ls)
-unfolding plan preliminary select after fresh drawGrowth
-plan-neither ds ls = rw (whole-G, whole-growth)
+pub fresh-scaled : (ls : List Lift) → fresh ls ≡ drawPlace (G (map (scaled wholly) ls)) (map growth (map (scaled wholly) ls)) false
+fresh-scaled ls = rw (whole-G, whole-growth)
 
-pub plan-single : (ds : Donors) (ls : List Lift) (i : ℕ) → plan ds ls (Single i) ≡ keyfitz (map (scaled (scaleOf ds ls)) ls) i
-unfolding plan preliminary select after
-plan-single ds ls i = rw weights-scaled
-
-pub plan-both : (ds : Donors) (ls : List Lift) (i j : ℕ) → plan ds ls (Both i j)
-    ≡ draw (scaleOf ds ls .new) (λ v. keyfitz (map (scaled (scaleOf ds ls)) ls) (cond (ltb v (scaleOf ds ls .odds)) i j))
-unfolding plan preliminary select after
-plan-both ds ls i j = rw (weights-scaled, D-scale, odds-scale)
+pub select-scaled : (ds : Donors) (ls : List Lift) (i : ℕ) → select ds ls (unitAt i) ≡ keyfitz (map (scaled (scaleOf ds ls)) ls) i
+unfolding select
+select-scaled ds ls i = rw weights-scaled

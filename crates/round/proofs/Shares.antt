@@ -15,7 +15,7 @@ use Rattle.laws.proofs.Sums.{over-ext}
 use Rattle.laws.proofs.Fractions.{pos-left, ≈-refl, ≈-sym, ≈-trans, ⊕-≈, ⊗-≈, ⊗-assoc, sum-≈, sum-cut, sum-part}
 use Rattle.laws.proofs.Masses.{weighed, mass-after, mass-den, mass-hits, mean-classes, every-map, every-after}
 use Rattle.round.specs.Round.{liftAt, S, D, oldWeight, newWeight, weights, weightAt}
-use Rattle.round.specs.Choice.{Preliminary, noUnit, unitAt, selection, fresh, preliminary, keyfitz, select, plan}
+use Rattle.round.specs.Choice.{Preliminary, noUnit, unitAt, selection, drawPlace, fresh, preliminaryBy, preliminary, keyfitz, select, plan}
 use Rattle.round.specs.Share.{overHeld, chooses, comes, any, share, preliminaryShare, UpdatesTheorem, SharesTheorem}
 use Rattle.round.specs.declared.Donors.{Donors}
 use Rattle.round.specs.declared.Donors.the-variants.{None, One, Two}
@@ -84,7 +84,7 @@ Placed n noUnit = Unit {0}
 Placed n (unitAt i) = i < n
 
 pub every-preliminary : (ds : Donors) (ls : List Lift) (n : ℕ) → 0 < D ds ls → (h : Held) → Inside n h → Every (Placed n) (preliminary ds ls h)
-unfolding Every preliminary
+unfolding Every preliminaryBy
 every-preliminary ds ls n p Neither u = tt
 every-preliminary ds ls n p (Single i) u = u
 every-preliminary ds ls n p (Both i j) u = (p, λ v _. go (ltb v _))
@@ -96,13 +96,13 @@ every-preliminary ds ls n p (Both i j) u = (p, λ v _. go (ltb v _))
 -- ---- a round with donors
 
 mass-fresh : (ls : List Lift) (j : ℕ) → j < length ls → 0 < S ls → mass (chooses j) (fresh ls) ≈ liftAt ls j .new // S ls
-unfolding fresh S
+unfolding drawPlace S
 mass-fresh ls j l p =
     rw (getD-map-in (λ x. x .new) (record { old = 0; donor = 0; new = 0 }) 0 ls j l) at
     (mass-hits (chooses j) (map (λ x. x .new) ls) (λ i. selection i false) j (rw (length-map ls (λ x. x .new)) l) p (λ i. refl))
 
 pub every-fresh : (ls : List Lift) → 0 < S ls → Drawable (fresh ls)
-unfolding Every fresh
+unfolding Every drawPlace
 every-fresh ls p = (p, λ _ _. tt)
 
 -- what is left, and what is here, make up the whole
@@ -111,7 +111,7 @@ joined X Y Z b d s e p q r =
     record { cross = omega (arith, ap (λ x. x * (b * d * Z * s * s)) e); left = mul-pos (mul-pos p (mul-pos q r)) (mul-pos p r); right = r }
 
 drawable-preliminary : (ds : Donors) (ls : List Lift) → 0 < D ds ls → (h : Held) → Drawable (preliminary ds ls h)
-unfolding Every preliminary
+unfolding Every preliminaryBy
 drawable-preliminary ds ls p Neither = tt
 drawable-preliminary ds ls p (Single i) = tt
 drawable-preliminary ds ls p (Both i j) = (p, λ _ _. tt)
@@ -237,11 +237,11 @@ module _ (ds : Donors) (ls : List Lift) (q : 0 < S ls) (p : 0 < D ds ls) (sums :
 -- ---- every round
 
 none-shared : (ls : List Lift) → 0 < S ls → (j : ℕ) → j < length ls → share None ls j ≈ liftAt ls j .new // S ls
-unfolding share overHeld plan preliminary after select
+unfolding share overHeld plan preliminaryBy after select
 none-shared ls q j l = ≈-trans (weighed (chooses j) (fresh ls) (every-fresh ls q) .agree) (mass-fresh ls j l q)
 
 none-whole : (ls : List Lift) → 0 < S ls → overHeld None ls (λ h. weight (λ _. true) (paths (plan None ls h))) ≈ 1 // 1
-unfolding overHeld plan preliminary after select
+unfolding overHeld plan preliminaryBy after select
 none-whole ls q = weighed (λ _. true) (fresh ls) (every-fresh ls q) .whole
 
 pub shares : SharesTheorem

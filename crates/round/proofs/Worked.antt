@@ -10,14 +10,14 @@ use Rattle.laws.specs.Plan.{after, paths, weight}
 use Rattle.draw.specs.Draw.{drawFrom}
 use Rattle.draw.specs.Run.{run}
 use Rattle.round.specs.Round.{S, U, D, oldWeight, newWeight, weights, weightAt, G}
-use Rattle.round.specs.Choice.{fresh, firstOdds, preliminary, stayOr, replacement, keyfitz, select, plan, outcome}
+use Rattle.round.specs.Choice.{drawPlace, firstOdds, preliminaryBy, stayOr, keyfitz, select, plan, outcome}
 use Rattle.round.specs.Share.{overInitial, overHeld, share}
 use Rattle.round.specs.Keep.{kept, Coupling}
 use Rattle.round.specs.declared.Donors.the-variants.{One}
 use Rattle.round.specs.Worked.{cases, right, rightFigures, rightShares, exchanged, rule, rightKeeping}
 
 pub all-right : allRight right cases ≡ true
-unfolding total totalBy pick after drawFrom run S U D oldWeight newWeight weights G fresh firstOdds preliminary stayOr replacement keyfitz select plan outcome
+unfolding total totalBy pick after drawFrom run S U D oldWeight newWeight weights G drawPlace firstOdds preliminaryBy stayOr keyfitz select plan outcome
 all-right = refl
 
 pub exact-figures : rightFigures ≡ true
@@ -25,11 +25,11 @@ unfolding total totalBy S U D oldWeight newWeight weights G
 exact-figures = refl
 
 pub exact-shares : rightShares ≡ true
-unfolding over total totalBy pick after paths weight S U D oldWeight newWeight weights G fresh firstOdds preliminary stayOr replacement keyfitz select plan overInitial overHeld share
+unfolding over total totalBy pick after paths weight S U D oldWeight newWeight weights G drawPlace firstOdds preliminaryBy stayOr keyfitz select plan overInitial overHeld share
 exact-shares = refl
 
 pub exact-keeping : rightKeeping ≡ true
-unfolding over total totalBy pick after paths weight S U D oldWeight newWeight weights G fresh firstOdds preliminary stayOr replacement keyfitz select plan overInitial overHeld kept
+unfolding over total totalBy pick after paths weight S U D oldWeight newWeight weights G drawPlace firstOdds preliminaryBy stayOr keyfitz select plan overInitial overHeld kept
 exact-keeping = refl
 
 row : (i : ℕ) → i < 2 → Σ 2 (λ j. rule i j) ≡ weightAt (weights (One 3) exchanged) i .old * 1

@@ -13,6 +13,8 @@ use Rattle.round.specs.declared.Donors.the-variants.{None, One, Two}
 use Rattle.round.specs.declared.Held.{Held}
 use Rattle.round.specs.declared.Held.the-variants.{Neither, Single, Both}
 use Rattle.round.specs.declared.Lift.{Lift}
+use Rattle.round.specs.declared.Proposed.{Proposed}
+use Rattle.round.specs.declared.Proposed.the-variants.{None as NoLift, At as LiftAt, Short as Ended}
 use Rattle.round.specs.declared.Selected.{Selected}
 use Rattle.round.specs.declared.Selected.the-variants.{At, Short}
 
@@ -29,9 +31,13 @@ pub record Selection : Type 0 where
 abbrev pub selection : ℕ → Bool → Selection
 selection i d = record { place = i; dropped = d }
 
+-- draw below a bound and "take the lift in whose stretch" the value "falls", the stretches laid end to end, in lift order
+unfoldable pub drawPlace : (bound : ℕ) → (stretches : List ℕ) → (dropped : Bool) → Plan Selection
+drawPlace bound stretches dropped = draw bound (λ v. done (selection (pick stretches v) dropped))
+
 -- "No held lift here: draw f below S; take the lift in whose stretch f falls when the b are laid end to end, in lift order."
-unfoldable pub fresh : List Lift → Plan Selection
-fresh ls = draw (S ls) (λ f. done (selection (pick (map (λ l. l .new) ls) f) false))
+abbrev pub fresh : List Lift → Plan Selection
+fresh ls = drawPlace (S ls) (map (λ l. l .new) ls) false
 
 -- "U2 × T1"
 unfoldable pub firstOdds : Donors → List Lift → ℕ
@@ -39,12 +45,16 @@ firstOdds None ls = 0
 firstOdds (One T) ls = 0
 firstOdds (Two T₁ T₂) ls = U 2 ls * T₁
 
--- "One held lift here: it is preliminary. Two held lifts here: draw v below D. If v is less than U2 × T1, donor 1's lift is
--- preliminary, else donor 2's."
-unfoldable pub preliminary : Donors → List Lift → Held → Plan Preliminary
-preliminary ds ls Neither = done noUnit
-preliminary ds ls (Single i) = done (unitAt i)
-preliminary ds ls (Both i j) = draw (D ds ls) (λ v. done (unitAt (cond (ltb v (firstOdds ds ls)) i j)))
+-- "One held lift here: it is preliminary. Two held lifts here: draw v below" a bound. "If v is less than" the odds, "donor 1's
+-- lift is preliminary, else donor 2's."
+unfoldable pub preliminaryBy : (bound odds : ℕ) → Held → Plan Preliminary
+preliminaryBy bound odds Neither = done noUnit
+preliminaryBy bound odds (Single i) = done (unitAt i)
+preliminaryBy bound odds (Both i j) = draw bound (λ v. done (unitAt (cond (ltb v odds) i j)))
+
+-- "draw v below D. If v is less than U2 × T1"
+abbrev pub preliminary : Donors → List Lift → Held → Plan Preliminary
+preliminary ds ls h = preliminaryBy (D ds ls) (firstOdds ds ls) h
 
 -- "The preliminary lift stays with no draw if its growth is 0 or more. Otherwise draw r below its old weight; it stays if r is
 -- less than its new weight."
@@ -53,8 +63,8 @@ stayOr w stay move = cond (leb (w .old) (w .new)) stay (draw (w .old) (λ r. con
 
 -- "If it is dropped, draw q below G and take the lift in whose stretch q falls, the growths above zero laid end to end in lift
 -- order."
-unfoldable pub replacement : List Weight → Plan Selection
-replacement ws = draw (G ws) (λ q. done (selection (pick (map growth ws) q) true))
+abbrev pub replacement : List Weight → Plan Selection
+replacement ws = drawPlace (G ws) (map growth ws) true
 
 -- Keyfitz's update of the preliminary lift at place i
 unfoldable pub keyfitz : List Weight → ℕ → Plan Selection
@@ -78,6 +88,12 @@ isHeld (Both a b) i = cond (eqb a i) true (eqb b i)
 -- "Outcome: 1 if the choice was held, else 2 if a preliminary lift was dropped, else 3 (fresh)."
 unfoldable pub outcome : Held → Selection → ℕ
 outcome h s = cond (isHeld h (s .place)) 1 (cond (s .dropped) 2 3)
+
+-- the answer to a run that gives the preliminary lift: none, or its place and the next position, or short
+abbrev pub proposed : Run Preliminary → Proposed
+proposed (finished vs noUnit next) = NoLift
+proposed (finished vs (unitAt i) next) = LiftAt i next
+proposed short = Ended
 
 -- the answer to a run of the choice: the place, the outcome and the next position, or short
 abbrev pub answer : Held → Run Selection → Selected

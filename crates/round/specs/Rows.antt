@@ -1,26 +1,19 @@
 -- A round lent as rows, what a caller shows of it, and its weights as the code computes them.
 use Prim.Native.Nat.{ℕ, _+_, _-_, _*_, _^_, _≤_, _<_}
 use mathlib.Core.Path.{_≡_}
-use mathlib.Core.Bool.{Bool, cond}
+use mathlib.Core.Bool.{cond}
 use mathlib.Core.List.{List, map}
 use lib.ListN.{length, getD}
 use lib.Dec.{ltb, eqb}
 use Rattle.laws.specs.Sum.{total}
-use Rattle.laws.specs.Interval.{pick}
-use Rattle.laws.specs.Plan.{Plan, done, draw}
 use Rattle.laws.specs.Pieces.{pieces}
-use Rattle.draw.specs.Draw.{largest, drawAt}
-use Rattle.draw.specs.declared.Drawn.{Drawn}
-use Rattle.draw.specs.declared.Drawn.the-variants.{Value, Short as Ended}
-use Rattle.round.specs.Round.{S, U, Weight, growth, G, Fitting}
-use Rattle.round.specs.Choice.{Selection, selection}
+use Rattle.round.specs.Round.{S, U, D, oldWeight, Weight, Fitting}
+use Rattle.round.specs.Choice.{firstOdds}
 use Rattle.round.specs.declared.Donors.{Donors}
 use Rattle.round.specs.declared.Donors.the-variants.{None, One, Two}
 use Rattle.round.specs.declared.Held.{Held}
 use Rattle.round.specs.declared.Held.the-variants.{Neither, Single, Both}
 use Rattle.round.specs.declared.Lift.{Lift}
-use Rattle.round.specs.declared.Preliminary.{Preliminary}
-use Rattle.round.specs.declared.Preliminary.the-variants.{None as NoLift, At, Short}
 use Rattle.round.specs.declared.Scale.{Scale}
 use Rattle.round.specs.declared.Sums.{Sums}
 
@@ -75,9 +68,11 @@ pub record Callable (ds : Donors) (ls : List Lift) (h : Held) : Type 0 where
 
 -- ---- how the code computes
 
--- S, and U of donor 1 and of donor 2
-abbrev pub sumsOf : List Lift → Sums
-sumsOf ls = record { new = S ls; first = U 1 ls; second = U 2 ls }
+-- the sums that the choice goes by are those of the round: S, and U of each donor; without a donor it goes by none
+abbrev pub HasSums : Donors → List Lift → Sums → Type 0
+HasSums None ls t = Unit {0}
+HasSums (One T) ls t = (t .new ≡ S ls) × (t .first ≡ U 1 ls)
+HasSums (Two T₁ T₂) ls t = (t .new ≡ S ls) × (t .first ≡ U 1 ls) × (t .second ≡ U 2 ls)
 
 -- with two donors the products of the sums fit 64 bits
 abbrev pub Multipliable : Donors → Sums → Type 0
@@ -93,15 +88,11 @@ multiplierOf s d = cond (eqb d 1) (s .first) (cond (eqb d 2) (s .second) 0)
 abbrev pub scaled : Scale → Lift → Weight
 scaled s l = record { old = l .old * multiplierOf s (l .donor); new = l .new * s .new }
 
--- the multipliers that give a round's weights, D and U2 × T1 with them, from its sums
-unfoldable pub scaleBy : Donors → Sums → Scale
-scaleBy None t = record { new = 0; first = 0; second = 0; odds = 0 }
-scaleBy (One T) t = record { new = t .first; first = t .new; second = 0; odds = 0 }
-scaleBy (Two T₁ T₂) t =
-    record { new = t .first * T₂ + t .second * T₁; first = T₂ * t .new; second = T₁ * t .new; odds = t .second * T₁ }
-
+-- the multipliers that give a round's weights: D, and the old weight of a lift of old measure 1 from donor 1, and from donor 2; and
+-- U2 × T1 with them
 abbrev pub scaleOf : Donors → List Lift → Scale
-scaleOf ds ls = scaleBy ds (sumsOf ls)
+scaleOf ds ls =
+    record { new = D ds ls; first = oldWeight ds ls (lift 1 1 0); second = oldWeight ds ls (lift 1 2 0); odds = firstOdds ds ls }
 
 -- the multipliers with which each lift grows by its whole new measure
 abbrev pub wholly : Scale
@@ -129,24 +120,8 @@ blockLength = 16
 abbrev pub blockEnd : ℕ → ℕ → ℕ
 blockEnd a n = cond (ltb (n - a) blockLength) n (a + blockLength)
 
--- a draw below the sum of the growths takes the lift in whose interval it falls: a replacement, or fresh where the growths are
--- the new measures
-unfoldable pub drawGrowth : Bool → List Weight → Plan Selection
-drawGrowth dropped ws = draw (G ws) (λ q. done (selection (pick (map growth ws) q) dropped))
-
 -- where both donors' lifts are held here there is something to draw below
 abbrev pub Contested : Scale → Held → Type 0
 Contested s Neither = Unit {0}
 Contested s (Single i) = Unit {0}
 Contested s (Both i j) = 1 ≤ s .new
-
--- of two held lifts here, the one that a draw says
-abbrev pub oneOf : Scale → (i j : ℕ) → Drawn → Preliminary
-oneOf s i j (Value v next) = At (cond (ltb v (s .odds)) i j) next
-oneOf s i j Ended = Short
-
--- the preliminary lift by the multipliers
-abbrev pub preliminaryOf : Scale → Held → List ℕ → ℕ → Preliminary
-preliminaryOf s Neither ws at = NoLift
-preliminaryOf s (Single i) ws at = At i at
-preliminaryOf s (Both i j) ws at = oneOf s i j (drawAt largest ws at (s .new))

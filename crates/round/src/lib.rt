@@ -1,16 +1,16 @@
 // One round: which of its lifts is to carry the recorder ("One round" of document 01). The round is lent as rows in lift
 // order, one for each lift, of four numbers: lift number, donor (1 or 2, 0 for none), old measure and new measure.
 ghost use mathlib.Core.Path.{_≡_};
-ghost use mathlib.Core.List.{map};
-ghost use Prim.Native.Nat.{_-_, _≤_, _<_};
+ghost use mathlib.Core.List.{List, map};
+ghost use Prim.Native.Nat.{_-_, _^_, _≤_, _<_};
 ghost use lib.ListN.{length, take};
 ghost use lib.Seq.{slice};
 ghost use Rattle.laws.specs.Interval.{pick as pickOf};
 ghost use Rattle.draw.specs.Draw.{largest};
 ghost use Rattle.draw.specs.Run.{run};
-ghost use Rattle.round.specs.Round.{liftAt, growth, G};
-ghost use Rattle.round.specs.Choice.{keyfitz, isHeld, outcome as outcomeOf, selection, answer, selected};
-ghost use Rattle.round.specs.Rows.{lifts, Callable, sumsOf, Multipliable, multiplierOf, scaled, scaleBy, Room, LiftRoom, Balanced, blockLength, blockEnd, drawGrowth, Contested, preliminaryOf};
+ghost use Rattle.round.specs.Round.{liftAt, U, sent as sentOf, growth, G, Fitting};
+ghost use Rattle.round.specs.Choice.{drawPlace, preliminaryBy, keyfitz, isHeld, outcome as outcomeOf, selection, proposed, answer, selected};
+ghost use Rattle.round.specs.Rows.{lifts, Bounded, Callable, HasSums, Multipliable, multiplierOf, scaled, scaleOf, Room, LiftRoom, Balanced, blockLength, blockEnd, Contested};
 use draw::Drawn;
 
 // The donors of a round, with their whole old sums T.
@@ -34,7 +34,7 @@ pub enum Selected {
 }
 
 // The preliminary lift: none; its place, and the position behind the last word read; or the words ended.
-enum Preliminary {
+enum Proposed {
     None,
     At(usize, usize),
     Short,
@@ -226,10 +226,60 @@ fn pick_lift(s: Scale, rows: &[u32], q: u64) -> usize
     i
 }
 
-// The multipliers that give the weights of a round.
+// A lift's old measure where it comes from donor k, else 0.
+fn sent(l: Lift, k: u32) -> u64
+    ensures { λ r. ⌜ r ≡ sentOf k l ⌝ }
+{
+    if l.donor == k {
+        return l.old;
+    }
+    0
+}
+
+// U: the part of donor k's old sum that came here.
+fn came(rows: &[u32], k: u32) -> u64
+    requires { ⌜ U k (lifts (now rows)) ≤ 2 ^ 61 ⌝ }
+    ensures { λ r. ⌜ r ≡ U k (lifts (now (rows .entry))) ⌝ }
+{
+    let n = count(rows);
+    let mut sum: u64 = 0;
+    let mut i = 0;
+    while i < n {
+        sum += sent(lift_at(rows, i), k);
+        i += 1;
+    }
+    sum
+}
+
+// The sums that the choice of a round goes by.
+pub fn sums_of(rows: &[u32], donors: Donors) -> Sums
+    requires { ⌜ Fitting donors (lifts (now rows)) × Bounded donors (lifts (now rows)) ⌝ }
+    ensures { λ r. ⌜ HasSums donors (lifts (now (rows .entry))) r ⌝ }
+{
+    let new = reach(WHOLLY, rows);
+    match donors {
+        Donors::None => Sums {
+            new,
+            first: 0,
+            second: 0,
+        },
+        Donors::One(_) => Sums {
+            new,
+            first: came(rows, 1),
+            second: 0,
+        },
+        Donors::Two(_, _) => Sums {
+            new,
+            first: came(rows, 1),
+            second: came(rows, 2),
+        },
+    }
+}
+
+// The multipliers that give the weights of a round with these sums.
 fn scaling(t: Sums, donors: Donors) -> Scale
     requires { ⌜ Multipliable donors t ⌝ }
-    ensures { λ r. ⌜ r ≡ scaleBy donors t ⌝ }
+    ensures { λ r. ⌜ ((ls : List Lift) → HasSums donors ls t → r ≡ scaleOf donors ls) ⌝ }
 {
     match donors {
         Donors::None => Scale {
@@ -291,7 +341,7 @@ fn draw_lift(
 ) -> Selected
     requires { ⌜ Room s (lifts (now rows)) ⌝ }
     requires { ⌜ 1 ≤ G (map (scaled s) (lifts (now rows))) ⌝ }
-    ensures { λ r. ⌜ r ≡ answer held (run largest (now (words .entry)) at (drawGrowth dropped (map (scaled s) (lifts (now (rows .entry)))))) ⌝ }
+    ensures { λ r. ⌜ (let ws = map (scaled s) (lifts (now (rows .entry))) in r ≡ answer held (run largest (now (words .entry)) at (drawPlace (G ws) (map growth ws) dropped))) ⌝ }
 {
     let bound = reach(s, rows);
     match draw::draw_from(words, at, bound) {
@@ -329,21 +379,21 @@ fn update(s: Scale, rows: &[u32], held: Held, i: usize, words: &[u64], at: usize
 }
 
 // The preliminary lift, from the held lifts: of two here, a draw says which.
-fn find_preliminary(s: Scale, held: Held, words: &[u64], at: usize) -> Preliminary
+fn find_preliminary(s: Scale, held: Held, words: &[u64], at: usize) -> Proposed
     requires { ⌜ Contested s held ⌝ }
-    ensures { λ r. ⌜ r ≡ preliminaryOf s held (now (words .entry)) at ⌝ }
+    ensures { λ r. ⌜ r ≡ proposed (run largest (now (words .entry)) at (preliminaryBy (s .new) (s .odds) held)) ⌝ }
 {
     match held {
-        Held::Neither => Preliminary::None,
-        Held::Single(i) => Preliminary::At(i, at),
+        Held::Neither => Proposed::None,
+        Held::Single(i) => Proposed::At(i, at),
         Held::Both(i, j) => match draw::draw_from(words, at, s.new) {
             Drawn::Value(v, next) => {
                 if v < s.odds {
-                    return Preliminary::At(i, next);
+                    return Proposed::At(i, next);
                 }
-                Preliminary::At(j, next)
+                Proposed::At(j, next)
             }
-            Drawn::Short => Preliminary::Short,
+            Drawn::Short => Proposed::Short,
         },
     }
 }
@@ -358,13 +408,13 @@ pub fn select(
     at: usize,
 ) -> Selected
     requires { ⌜ Callable donors (lifts (now rows)) held ⌝ }
-    requires { ⌜ t ≡ sumsOf (lifts (now rows)) ⌝ }
+    requires { ⌜ HasSums donors (lifts (now rows)) t ⌝ }
     ensures { λ r. ⌜ r ≡ selected donors (lifts (now (rows .entry))) held (now (words .entry)) at ⌝ }
 {
     let s = scaling(t, donors);
     match find_preliminary(s, held, words, at) {
-        Preliminary::None => draw_lift(WHOLLY, rows, held, false, words, at),
-        Preliminary::At(i, next) => update(s, rows, held, i, words, next),
-        Preliminary::Short => Selected::Short,
+        Proposed::None => draw_lift(WHOLLY, rows, held, false, words, at),
+        Proposed::At(i, next) => update(s, rows, held, i, words, next),
+        Proposed::Short => Selected::Short,
     }
 }

@@ -1,6 +1,7 @@
 -- `exports::jengpilo_round_select` meets its contract: what `select` ensures, by the two cases of its answer. Assumes nothing.
 use borrow.Author.Needs.{needs}
 use mathlib.Core.Path.{sym, _∙_}
+use Rattle.round.specs.Rows.{lifts, Callable}
 use Rattle.exports.proofs.Replies.{chose-at, chose-short, by-enums, answer-by-enums}
 use Rattle.exports.proofs.jengpilo_round_select.Statement.{statement}
 use Rattle.exports.proofs.jengpilo_round_select.Tie as tie
@@ -11,13 +12,18 @@ donors-of-requires c κs = search needs
 held-of-requires : tie.Need-held-of-requires
 held-of-requires c κs = search needs
 
-select-requires : tie.Need-select-requires
-select-requires c κs =
-    let p = c .before .before .before .before .pre in
-    (by-enums (c .before .donors-of .ensures) (c .held-of .ensures) (p .0), rw (p .1 .0, p .1 .1 .0, p .1 .1 .1))
+-- the round that the numbers stand for
+callable : (c : tie.After-held-of) → Callable (c .before .donors-of .result) (lifts (c .before .before .before .before .args .rows .now)) (c .held-of .result)
+callable c = by-enums (c .before .donors-of .ensures) (c .held-of .ensures) (c .before .before .before .before .pre)
 
-enum-known-selected : tie.Need-enum-known-selected
-enum-known-selected c = search needs
+sums-of-requires : tie.Need-sums-of-requires
+sums-of-requires c κs = let k = callable c in (k .fitting, k .bounded)
+
+select-requires : tie.Need-select-requires
+select-requires c κs = (callable (c .before), c .sums-of .ensures)
+
+enum-known-p : tie.Need-enum-known-p
+enum-known-p c = search needs
 
 enum-told : tie.Need-enum-told
 enum-told c = search needs
@@ -25,12 +31,12 @@ enum-told c = search needs
 returns : tie.Need-returns
 returns c =
     let b = c .before .before .before in
-    chose-at (sym (c .before .selected .given .1) ∙ answer-by-enums _ _ _ (b .before .before .donors-of .ensures) (b .before .held-of .ensures) (b .select .ensures))
+    chose-at (sym (c .before .p .given .1) ∙ answer-by-enums _ _ _ (b .before .before .before .donors-of .ensures) (b .before .before .held-of .ensures) (b .select .ensures))
 
 returns-2 : tie.Need-returns-2
 returns-2 c =
     let b = c .before .before in
-    chose-short (sym (c .enum-told .given .1) ∙ answer-by-enums _ _ _ (b .before .before .donors-of .ensures) (b .before .held-of .ensures) (b .select .ensures))
+    chose-short (sym (c .enum-told .given .1) ∙ answer-by-enums _ _ _ (b .before .before .before .donors-of .ensures) (b .before .before .held-of .ensures) (b .select .ensures))
 
 pub jengpilo-round-select-spec : {M : Type 1} → statement M
 jengpilo-round-select-spec =
@@ -38,8 +44,9 @@ jengpilo-round-select-spec =
     (tie.spec
     donors-of-requires
     held-of-requires
+    sums-of-requires
     select-requires
-    enum-known-selected
+    enum-known-p
     enum-told
     returns
     returns-2)

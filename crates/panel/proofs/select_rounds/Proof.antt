@@ -128,7 +128,7 @@ choose-lift-requires c κs =
     let b = tested x in
     let d = b .before .loop .inv .0 in
     let l = b .before .loop .inv .1 .low in
-    (callable d l (b .loop-test .taken) (x .before .before .before .with-sums .ensures) (x .held-in .ensures), sums-are d l (b .loop-test .taken) refl)
+    (callable d l (b .loop-test .taken) (x .before .before .before .with-sums .ensures) (x .held-in .ensures), sums-are d l (b .loop-test .taken) (x .before .before .before .with-sums .result) refl)
 
 enum-told : tie.Need-enum-told Inv-loop μ-loop
 enum-told c = search needs

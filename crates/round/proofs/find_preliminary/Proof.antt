@@ -1,5 +1,5 @@
 -- `round::find_preliminary` meets its contract: by the cases of the held lifts, and of the draw between two. Assumes nothing.
-use Rattle.round.proofs.Answers.{drawn-first, drawn-second, drawn-neither}
+use Rattle.round.proofs.Answers.{proposed-none, proposed-single, proposed-first, proposed-second, proposed-short}
 use borrow.Author.Needs.{needs}
 use Rattle.round.proofs.find_preliminary.Statement.{statement}
 use Rattle.round.proofs.find_preliminary.Tie as tie
@@ -20,22 +20,22 @@ enum-known-v : tie.Need-enum-known-v
 enum-known-v c = search needs
 
 returns : tie.Need-returns
-returns c = search drawn-first
+returns c = search proposed-first
 
 enum-told-2 : tie.Need-enum-told-2
 enum-told-2 c = search needs
 
 returns-2 : tie.Need-returns-2
-returns-2 c = rw (c .enum-told .given .1)
+returns-2 c = search proposed-none
 
 returns-3 : tie.Need-returns-3
-returns-3 c = rw (c .before .held .given .1)
+returns-3 c = search proposed-single
 
 returns-4 : tie.Need-returns-4
-returns-4 c = search drawn-second
+returns-4 c = search proposed-second
 
 returns-5 : tie.Need-returns-5
-returns-5 c = search drawn-neither
+returns-5 c = search proposed-short
 
 pub find-preliminary-spec : {M : Type 1} → statement M
 find-preliminary-spec =

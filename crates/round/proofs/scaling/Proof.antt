@@ -1,7 +1,6 @@
 -- `round::scaling` meets its contract: by how many donors there are; the products have room. Assumes nothing.
 use borrow.Author.Needs.{needs}
-use Rattle.round.specs.Rows.{scaleBy}
-use Rattle.round.proofs.Scales.{first-part, second-part, both-parts, first-times, second-times}
+use Rattle.round.proofs.Scales.{first-part, second-part, both-parts, first-times, second-times, scale-none, scale-one, scale-two}
 use Rattle.round.proofs.scaling.Statement.{statement}
 use Rattle.round.proofs.scaling.Tie as tie
 
@@ -30,16 +29,13 @@ mul-t10 : tie.Need-mul-t10
 mul-t10 c = first-times (c .before .before .before .before .before .before .before .args .t) (c .before .before .before .before .before .donors .given .1) (c .before .before .before .before .before .before .before .pre)
 
 returns : tie.Need-returns
-unfolding scaleBy
-returns c = rw (c .enum-told .given .1)
+returns c ls u = scale-none _ ls u (c .enum-told .given .1)
 
 returns-2 : tie.Need-returns-2
-unfolding scaleBy
-returns-2 c = rw (c .enum-told2 .given .1)
+returns-2 c ls u = scale-one _ ls u (c .enum-told2 .given .1)
 
 returns-3 : tie.Need-returns-3
-unfolding scaleBy
-returns-3 c = rw (c .before .before .before .before .before .donors .given .1)
+returns-3 c ls u = scale-two _ ls u (c .before .before .before .before .before .donors .given .1)
 
 pub scaling-spec : {M : Type 1} → statement M
 scaling-spec =
