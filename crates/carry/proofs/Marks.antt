@@ -1,6 +1,6 @@
 -- The choices as held marks: they are an initial selection of the lifts carried on, which so marked fit.
 use Prim.Native.Nat.{ℕ, _≤_, _<_}
-use mathlib.Core.Path.{_≡_, refl, ap, ap₂, subst}
+use mathlib.Core.Path.{_≡_, refl, ap, ap₂, subst, _∙_}
 use mathlib.Core.Bool.{Bool, true, false, cond, false≢true}
 use mathlib.Core.List.{List, [], _∷_, map, List·Memᴰ, List·Memᴰ·head, List·Memᴰ·tail}
 use native.Mathlib.Omega.{arith}
@@ -13,6 +13,7 @@ use Rattle.sheet.specs.Sheet.{mostRounds, Lift}
 use Rattle.sheet.specs.Rounds.{named, inUse}
 use Rattle.sheet.specs.Law.{Fit}
 use Rattle.sheet.specs.declared.Side.the-variants.{Old, New}
+use Rattle.sheet.proofs.Sending.{crowded-donors}
 use Rattle.sheet.proofs.Those.{those-in}
 use Rattle.selection.specs.Choice.{Choice, liftAt}
 use Rattle.selection.specs.Initial.{marked}
@@ -38,7 +39,7 @@ unmarked {ls} f =
       old = λ r l h. rw (sumOf-next noneHeld Old r l ls) (f .rounds .new r l h);
       new = λ r l h. rw (sumOf-next noneHeld New r l ls) (f .rounds .new r l h);
       measured = λ r l h. rw (named-next noneHeld New r l ls, sumOf-next noneHeld New r l ls) (f .rounds .measured r l h);
-      donors = λ r l h. few-donors noneHeld r l h ls;
+      donors = λ r l h. crowded-donors (carriedOn noneHeld ls) r ∙ few-donors noneHeld r l h ls;
     }
 
 -- a lift of a new round is carried on

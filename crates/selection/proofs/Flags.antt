@@ -16,6 +16,7 @@ use Rattle.laws.specs.Initial.{Initial, here, elsewhere}
 use Rattle.round.specs.Share.{heldOf}
 use Rattle.sheet.specs.Sheet.{mostRounds, Lift}
 use Rattle.sheet.specs.Law.{Listed, Fit}
+use Rattle.sheet.proofs.Sending.{at-most-two}
 use Rattle.sheet.proofs.Those.{those-has}
 use Rattle.sheet.specs.Rounds.{comes, sends, donors, ofRound, heldIn as heldCount, further, heldAt}
 use Rattle.selection.specs.Choice.{heldAmong, heldIn, nobody, liftAt}
@@ -119,7 +120,7 @@ sends-has t r (List·Memᴰ·tail {x = x} m) c = rw (sends-has t r m c) (or-true
 pub flagged : (ls : List Lift) → Fit ls → (r : ℕ) → 1 ≤ r → r ≤ mostRounds → (i : ℕ) → liftAt r ls i .held ≡ isHeld (heldIn r ls) i
 unfolding liftAt heldIn
 flagged ls f r a b i =
-    among (ofRound r ls) (λ t. le-trans (ofRound-le (λ l. l .old .round) (λ l. indicator (l .held)) t r ls) (held-one ls d (f .rounds .held) t)) i (donors r ls) (f .rounds .donors r a b)
+    among (ofRound r ls) (λ t. le-trans (ofRound-le (λ l. l .old .round) (λ l. indicator (l .held)) t r ls) (held-one ls d (f .rounds .held) t)) i (donors r ls) (at-most-two ls r (f .rounds .donors r a b))
     (all-getD Donor (λ e. absurd (false≢true e)) (ofRound r ls) (ofRound-all Donor r ls donor) i)
   where
     d : Listed 0 ls

@@ -81,7 +81,7 @@ module _ {ls : List Lift} (f : Unmarked ls) {m : List Lift} (chosen : Selected l
           old = λ r l h. rw (sumOf-marked m Old r ls) (f .old r l h);
           new = λ r l h. rw (sumOf-marked m New r ls) (f .new r l h);
           measured = λ r l h. rw (named-marked m New r ls, sumOf-marked m New r ls) (f .measured r l h);
-          donors = λ r l h. rw (donors-marked m r ls) (f .donors r l h);
+          donors = λ r l h. rw (named-marked m New r ls, donors-marked m r ls) (f .donors r l h);
         };
       }
 

@@ -16,6 +16,7 @@ use Rattle.round.specs.Rows.{Stands, Bounded, SumsBounded}
 use Rattle.sheet.specs.Sheet.{mostRounds, largestSum, Lift}
 use Rattle.sheet.specs.Law.{Fit}
 use Rattle.sheet.specs.declared.Side.the-variants.{Old, New}
+use Rattle.sheet.proofs.Sending.{at-most-two}
 use Rattle.sheet.proofs.Those.{those-head}
 use Rattle.sheet.specs.Rounds.{named, sumOf, sends, donors, ofRound, donorNumber, further, heldAt}
 use Rattle.selection.specs.Choice.{withSums, donorsOf, inRound, liftsOf, heldAmong, heldIn}
@@ -84,7 +85,7 @@ module _ {ls : List Lift} (f : Fit ls) {r : ℕ} (low : 1 ≤ r) (high : r ≤ m
           let h = those-head p 1 mostRounds d (e ∷ []) q in
           let k = those-head p (suc d) (1 + mostRounds - suc d) e [] (sym (h .rest)) in
           two (h .passes) (k .passes) (h .from) (k .from) (omega (arith, h .upto, k .upto))
-      go (d ∷ e ∷ c ∷ ds) q = absurd (omega (arith, leb-false 3 (length (donors r ls)) (f .rounds .donors r low high), ap length q))
+      go (d ∷ e ∷ c ∷ ds) q = absurd (omega (arith, leb-false 3 (length (donors r ls)) (at-most-two ls r (f .rounds .donors r low high)), ap length q))
 
   sum-new : sumOf New r ls ≤ largestSum
   sum-new = ltb-false largestSum (sumOf New r ls) (f .rounds .new r low high)

@@ -18,6 +18,7 @@ use Rattle.round.proofs.Initials.{initial-den}
 use Rattle.sheet.specs.Sheet.{mostRounds, Lift}
 use Rattle.sheet.specs.Law.{Listed, Fit}
 use Rattle.sheet.specs.declared.Side.the-variants.{Old}
+use Rattle.sheet.proofs.Sending.{at-most-two}
 use Rattle.sheet.proofs.Those.{those-none, Rising, those-rise}
 use Rattle.sheet.specs.Rounds.{named, sumOf, heldIn as heldCount, sends, donors, ofRound, donorNumber, heldAt}
 use Rattle.selection.specs.Choice.{withSums, donorsOf, inRound, liftsOf, heldAmong, heldIn}
@@ -125,7 +126,7 @@ transfer ls f r a b F u =
     simp (sends-marked, ofRound-marked)
     (≈-trans
     (reduced ls (λ t. ltb 0 (named Old t ls)) (λ t. sends t r ls) h 1 mostRounds (measured ls f) g (λ m. u _) (donors-seen 0 ls l r F u 1 ds s))
-    (donors-mean 0 ls l r F u 1 ds s (f .rounds .donors r a b)))
+    (donors-mean 0 ls l r F u 1 ds s (at-most-two ls r (f .rounds .donors r a b))))
 
 -- all initial selections weigh 1 together
 pub whole : (ls : List Lift) → Fit ls → overSelections ls (λ _. 1 // 1) ≈ 1 // 1

@@ -1,24 +1,26 @@
 -- The donors of a round as bits: joining the bits of its lifts gives those of its donors, and counting them counts the donors.
 use Prim.Native.Nat.{ℕ, _+_, _-_, _*_, _/_, _%_, _≤_, _<_}
 use mathlib.Core.Path.{_≡_, refl, sym, ap, _∙_}
-use mathlib.Core.Bool.{Bool, true, false, cond, _&&_, and-false}
+use mathlib.Core.Bool.{Bool, true, false, cond, _&&_, _||_, and-false}
 use mathlib.Core.List.{List, [], _∷_}
 use native.Mathlib.Nat.{zero-add}
 use native.Mathlib.Omega.{arith}
 use lib.Bits.{bitOr, or-zero-l, or-zero-r}
 use lib.Count.{ones}
-use lib.Dec.{eqb, ltb}
+use lib.Dec.{eqb, leb, ltb}
 use lib.ListN.{length, getD}
-use borrow.Author.Tests.{le-ltb, eq-eqb, ne-eqb, eqb-true, eqb-false}
-use Rattle.laws.specs.Sum.{over, Σ, indicator}
+use borrow.Author.Tests.{le-ltb, ltb-false, eq-eqb, ne-eqb, eqb-true, eqb-false}
+use Rattle.laws.specs.Sum.{over, Σ, totalBy, indicator}
 use Rattle.laws.proofs.Sums.{over-ext, Σ-cut, Σ-const}
 use Rattle.sheet.specs.Sheet.{mostRounds, oldKind, Lift, lifts}
 use Rattle.sheet.specs.Reading.{Legible}
-use Rattle.sheet.specs.Rounds.{comes, sends, donors}
+use Rattle.sheet.specs.Rounds.{named, comes, sends, donors}
+use Rattle.sheet.specs.Refusal.{crowded}
 use Rattle.sheet.specs.Tables.{bits, bitOf, donorsOf}
 use Rattle.sheet.specs.Law.{Placed, Listed}
+use Rattle.sheet.specs.declared.Side.the-variants.{New}
 use Rattle.sheet.proofs.Bits.{bits-or, bits-ext, bits-none, bits-ones, or-assoc}
-use Rattle.sheet.proofs.Those.{those-count}
+use Rattle.sheet.proofs.Those.{those-count, those-none}
 use Rattle.sheet.proofs.Tables.{getD-tabulate, Folds}
 use Rattle.sheet.proofs.Trips.{read-theorem}
 
@@ -88,6 +90,30 @@ pub sends-none : (t r : ℕ) → ((l : Lift) → Placed oldKind (l .old) → com
 unfolding sends Listed
 sends-none t r h n [] d = refl
 sends-none t r h n (l ∷ ls) d = rw (h l (d .0 .old)) (sends-none t r h (l .number) ls (d .1))
+
+-- a round that no lift names is sent nothing
+sends-unnamed : (t r : ℕ) (ls : List Lift) → named New r ls ≡ 0 → sends t r ls ≡ false
+unfolding sends totalBy
+sends-unnamed t r [] h = refl
+sends-unnamed t r (l ∷ ls) h = go (eqb (l .new .round) r) h (sends-unnamed t r ls)
+  where
+    go : (p : Bool) → cond p 1 0 + named New r ls ≡ 0 → (named New r ls ≡ 0 → sends t r ls ≡ false)
+        → (eqb (l .old .round) t && (p && ltb 0 (l .old .measure))) || sends t r ls ≡ false
+    go true k ih = absurd (omega arith)
+    go false k ih = rw (and-false (eqb (l .old .round) t)) (ih (omega arith))
+
+-- so refusal 10 goes by the count of donors alone
+pub crowded-donors : (ls : List Lift) (r : ℕ) → crowded ls r ≡ leb 3 (length (donors r ls))
+crowded-donors ls r = go (ltb 0 (named New r ls)) refl
+  where
+    go : (p : Bool) → ltb 0 (named New r ls) ≡ p → p && leb 3 (length (donors r ls)) ≡ leb 3 (length (donors r ls))
+    go true e = refl
+    go false e =
+        let unnamed : named New r ls ≡ 0 = omega (arith, ltb-false 0 (named New r ls) e) in
+        rw (those-none (λ t. sends t r ls) 1 mostRounds (λ t _ _. sends-unnamed t r ls unnamed))
+
+pub at-most-two : (ls : List Lift) (r : ℕ) → crowded ls r ≡ false → leb 3 (length (donors r ls)) ≡ false
+at-most-two ls r e = sym (crowded-donors ls r) ∙ e
 
 -- a newcomer brings no measure
 pub from-nowhere : (r : ℕ) (l : Lift) → Placed oldKind (l .old) → comes 0 r l ≡ false

@@ -24,7 +24,7 @@ use Rattle.sheet.specs.declared.Examined.{Examined}
 use Rattle.sheet.specs.declared.Found.{Found}
 use Rattle.sheet.specs.declared.Found.the-variants.{At, Nothing}
 use Rattle.sheet.proofs.Tables.{getD-tabulate}
-use Rattle.sheet.proofs.Sending.{low-word, high-word, donors-count}
+use Rattle.sheet.proofs.Sending.{low-word, high-word, donors-count, crowded-donors}
 use Rattle.sheet.proofs.Numbers.{Above, above}
 use Rattle.sheet.proofs.Trips.{not-ended, read-theorem, written-theorem}
 use Rattle.sheet.proofs.Those.{those-ext, those-none, none-those}
@@ -57,7 +57,7 @@ module _ (ls : List Lift) {a : List ℕ} where
 pub found-crowded : {ws words counts : List ℕ} {x : Found} → Legible ws → words ≡ donorsOf (lifts ws) → counts ≡ donorCounts words
     → x ≡ first (rounds (λ t. breaks Crowded (getD counts t 0) (getD counts t 0))) → x ≡ first (rounds (crowded (lifts ws)))
 found-crowded {ws} {words} l ew ec e =
-    e ∙ ap first (tested (breaks Crowded) _ _ ec ec ∙ those-ext 1 mostRounds (λ t _ h. ap (leb 3) (count t (omega arith))))
+    e ∙ ap first (tested (breaks Crowded) _ _ ec ec ∙ those-ext 1 mostRounds (λ t _ h. ap (leb 3) (count t (omega arith)) ∙ sym (crowded-donors (lifts ws) t)))
   where
     count : (r : ℕ) → r ≤ mostRounds → ones (getD words (2 * r) 0) + ones (getD words (2 * r + 1) 0) ≡ length (donors r (lifts ws))
     count r h = rw (ew, low-word (lifts ws) r h, high-word (lifts ws) r h) (donors-count ws l r)

@@ -37,7 +37,7 @@ unmeasured ls r = ltb 0 (named New r ls) && eqb (sumOf New r ls) 0
 
 -- "10. A new round with three donors or more; the different old rounds that send it measure are counted."
 abbrev pub crowded : List Lift → ℕ → Bool
-crowded ls r = leb 3 (length (donors r ls))
+crowded ls r = ltb 0 (named New r ls) && leb 3 (length (donors r ls))
 
 -- ---- their order
 
