@@ -167,6 +167,16 @@ fn held_in(first: u64, second: u64, seats: &[u64; Sheet::TABLE], a: u64, e: u64)
     held_of(one, held_place(seats[second as usize], a, e))
 }
 
+// The sums of a round: that of its new measures, and what each of its donors sent it.
+fn sums_in(new: u64, sent: &[u64; 3 * Sheet::TABLE], round: usize) -> Sums
+    requires { ⌜ round ≤ mostRounds ⌝ }
+    ensures { λ r. ⌜ r ≡ record { new = new; first = getD (now (sent .entry)) (3 * round + 1) 0; second = getD (now (sent .entry)) (3 * round + 2) 0 } ⌝ }
+{
+    let first = sent[3 * round + 1];
+    let second = sent[3 * round + 2];
+    Sums { new, first, second }
+}
+
 // The number of the lift at a place of a round, 0 beyond the last.
 fn number_at(rows: &[u32], place: usize) -> u32
     ensures { λ r. ⌜ r ≡ getD (getD (pieces rowLength (now (rows .entry))) place []) 0 0 ⌝ }
@@ -222,14 +232,7 @@ fn select_rounds(sheet: &[u32], t: Tallies, words: &[u64], start: usize, rows: &
         let held = held_in(first, second, &x.seats, a, e);
         let begin = Lift::ROW * a as usize;
         let end = Lift::ROW * e as usize;
-        let new = t.new_sums[r];
-        let sent1 = x.sent[3 * r + 1];
-        let sent2 = x.sent[3 * r + 2];
-        let sums = Sums {
-            new,
-            first: sent1,
-            second: sent2,
-        };
+        let sums = sums_in(t.new_sums[r], &x.sent, r);
         match choose_lift(&rows[begin..end], donors, held, sums, words, next) {
             Step::Passed => {
                 r += 1;

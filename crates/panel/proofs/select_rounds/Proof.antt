@@ -22,7 +22,7 @@ abbrev tested : tie.After-held-in Inv-loop μ-loop → tie.In-loop Inv-loop μ-l
 tested c = c .before .before .before .before .before .before .before .before .before .before
 
 abbrev marked : tie.After-choose-lift Inv-loop μ-loop → tie.After-held-in Inv-loop μ-loop
-marked c = c .before .before .before .before .before .before
+marked c = c .before .before .before .before .before .before .before
 
 lay-out-requires : tie.Need-lay-out-requires Inv-loop μ-loop
 lay-out-requires c κs = c .before .before .before .before .pre
@@ -80,55 +80,34 @@ mul-begin c = let b = tested c in omega (arith, rises (b .before .loop .inv .0) 
 mul-end : tie.Need-mul-end Inv-loop μ-loop
 mul-end c = let b = tested c in omega (arith, rises (b .before .loop .inv .0) (b .before .loop .inv .1 .low) (b .loop-test .taken), few (b .before .loop .inv .0) (b .before .loop .inv .1 .low) (b .loop-test .taken))
 
-mul-new : tie.Need-mul-new Inv-loop μ-loop
-mul-new c = search needs
+mul-sums-in : tie.Need-mul-sums-in Inv-loop μ-loop
+mul-sums-in c = search needs
 
-element-copy-out-new : tie.Need-element-copy-out-new Inv-loop μ-loop
-element-copy-out-new c = search needs
+element-copy-out-sums-in : tie.Need-element-copy-out-sums-in Inv-loop μ-loop
+element-copy-out-sums-in c = search needs
 
-mul-sent1 : tie.Need-mul-sent1 Inv-loop μ-loop
-mul-sent1 c = search needs
-
-add-sent1 : tie.Need-add-sent1 Inv-loop μ-loop
-add-sent1 c = search needs
-
-mul-sent1-2 : tie.Need-mul-sent1-2 Inv-loop μ-loop
-mul-sent1-2 c = search needs
-
-element-copy-out-sent1 : tie.Need-element-copy-out-sent1 Inv-loop μ-loop
-element-copy-out-sent1 c = search needs
-
-mul-sent2 : tie.Need-mul-sent2 Inv-loop μ-loop
-mul-sent2 c = search needs
-
-add-sent2 : tie.Need-add-sent2 Inv-loop μ-loop
-add-sent2 c = search needs
-
-mul-sent2-2 : tie.Need-mul-sent2-2 Inv-loop μ-loop
-mul-sent2-2 c = search needs
-
-element-copy-out-sent2 : tie.Need-element-copy-out-sent2 Inv-loop μ-loop
-element-copy-out-sent2 c = search needs
+sums-in-requires : tie.Need-sums-in-requires Inv-loop μ-loop
+sums-in-requires c κs = search needs
 
 mul-choose-lift : tie.Need-mul-choose-lift Inv-loop μ-loop
-mul-choose-lift c = let b = tested (c .before .before .before) in omega (arith, rises (b .before .loop .inv .0) (b .before .loop .inv .1 .low) (b .loop-test .taken), few (b .before .loop .inv .0) (b .before .loop .inv .1 .low) (b .loop-test .taken))
+mul-choose-lift c = let b = tested (c .before .before .before .before) in omega (arith, rises (b .before .loop .inv .0) (b .before .loop .inv .1 .low) (b .loop-test .taken), few (b .before .loop .inv .0) (b .before .loop .inv .1 .low) (b .loop-test .taken))
 
 sub-choose-lift : tie.Need-sub-choose-lift Inv-loop μ-loop
-sub-choose-lift c = let b = tested (c .before .before .before) in omega (arith, rises (b .before .loop .inv .0) (b .before .loop .inv .1 .low) (b .loop-test .taken), few (b .before .loop .inv .0) (b .before .loop .inv .1 .low) (b .loop-test .taken))
+sub-choose-lift c = let b = tested (c .before .before .before .before) in omega (arith, rises (b .before .loop .inv .0) (b .before .loop .inv .1 .low) (b .loop-test .taken), few (b .before .loop .inv .0) (b .before .loop .inv .1 .low) (b .loop-test .taken))
 
 part-choose-lift-start : tie.Need-part-choose-lift-start Inv-loop μ-loop
-part-choose-lift-start c = let b = tested (c .before .before .before .before) in omega (arith, rises (b .before .loop .inv .0) (b .before .loop .inv .1 .low) (b .loop-test .taken), few (b .before .loop .inv .0) (b .before .loop .inv .1 .low) (b .loop-test .taken))
+part-choose-lift-start c = let b = tested (c .before .before .before .before .before) in omega (arith, rises (b .before .loop .inv .0) (b .before .loop .inv .1 .low) (b .loop-test .taken), few (b .before .loop .inv .0) (b .before .loop .inv .1 .low) (b .loop-test .taken))
 
 part-choose-lift-end : tie.Need-part-choose-lift-end Inv-loop μ-loop
-part-choose-lift-end c = let b = tested (c .before .before .before .before) in omega (arith, part-end (b .before .loop .inv .0) (b .before .loop .inv .1 .low) (b .loop-test .taken))
+part-choose-lift-end c = let b = tested (c .before .before .before .before .before) in omega (arith, part-end (b .before .loop .inv .0) (b .before .loop .inv .1 .low) (b .loop-test .taken))
 
 choose-lift-requires : tie.Need-choose-lift-requires Inv-loop μ-loop
 choose-lift-requires c κs =
-    let x = c .before .before .before .before .before in
+    let x = c .before .before .before .before .before .before in
     let b = tested x in
     let d = b .before .loop .inv .0 in
     let l = b .before .loop .inv .1 .low in
-    (callable d l (b .loop-test .taken) (x .before .before .before .with-sums .ensures) (x .held-in .ensures), sums-are d l (b .loop-test .taken) (x .before .before .before .with-sums .result) refl)
+    (callable d l (b .loop-test .taken) (x .before .before .before .with-sums .ensures) (x .held-in .ensures), sums-are d l (b .loop-test .taken) (x .before .before .before .with-sums .result) (c .before .before .sums-in .ensures))
 
 enum-told : tie.Need-enum-told Inv-loop μ-loop
 enum-told c = search needs
@@ -217,16 +196,9 @@ select-rounds-spec =
     held-in-requires
     mul-begin
     mul-end
-    mul-new
-    element-copy-out-new
-    mul-sent1
-    add-sent1
-    mul-sent1-2
-    element-copy-out-sent1
-    mul-sent2
-    add-sent2
-    mul-sent2-2
-    element-copy-out-sent2
+    mul-sums-in
+    element-copy-out-sums-in
+    sums-in-requires
     mul-choose-lift
     sub-choose-lift
     part-choose-lift-start
