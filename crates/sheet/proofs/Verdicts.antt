@@ -12,19 +12,19 @@ use borrow.Author.Tests.{eq-eqb, ne-eqb, lt-ltb, le-ltb, ltb-false}
 use Rattle.sheet.specs.Sheet.{mostRounds, longest, Lift, lifts, sheetOf}
 use Rattle.sheet.specs.Reading.{Numbered, numbered, Reading, faulty, sound, start, reading, ofWords, Legible}
 use Rattle.sheet.specs.Rounds.{rounds, named, inUse, sumOf, heldIn, donors}
-use Rattle.sheet.specs.Refusal.{Verdict, refused, fits, unheld, oversize, unmeasured, crowded, firstRound, ofRounds, unlessFaulty, verdict, refusal, told}
-use Rattle.sheet.specs.Tables.{table, donorsOf, donorCounts, breaks, first}
+use Rattle.sheet.specs.Refusal.{Verdict, refused, fits, breaks, unheld, oversize, unmeasured, crowded, firstRound, ofRounds, unlessFaulty, verdict, refusal, told}
+use Rattle.sheet.specs.Tables.{table, donorsOf, donorCounts, first}
 use Rattle.sheet.specs.Law.{Fit, Fitting, DecidedTheorem, Answered}
 use Rattle.sheet.specs.declared.Side.{Side}
 use Rattle.sheet.specs.declared.Side.the-variants.{Old, New}
-use Rattle.sheet.specs.declared.Rule.the-variants.{Unheld, Oversize, Unmeasured, Crowded}
+use Rattle.sheet.specs.declared.Rule.{Rule}
 use Rattle.sheet.specs.declared.Refusal.{Refusal}
 use Rattle.sheet.specs.declared.Checked.the-variants.{Refused}
 use Rattle.sheet.specs.declared.Examined.{Examined}
 use Rattle.sheet.specs.declared.Found.{Found}
 use Rattle.sheet.specs.declared.Found.the-variants.{At, Nothing}
-use Rattle.sheet.proofs.Tables.{getD-tabulate}
-use Rattle.sheet.proofs.Sending.{low-word, high-word, donors-count, crowded-donors}
+use Rattle.sheet.proofs.Tables.{getD-tabulate, length-tabulate, tabulated}
+use Rattle.sheet.proofs.Sending.{low-word, high-word, donors-count}
 use Rattle.sheet.proofs.Numbers.{Above, above}
 use Rattle.sheet.proofs.Trips.{not-ended, read-theorem, written-theorem}
 use Rattle.sheet.proofs.Those.{those-ext, those-none, none-those}
@@ -38,26 +38,18 @@ tested test f g ea eb =
     those-ext 1 mostRounds
     (λ t l h. ap₂ test (ap (λ x. getD x t 0) ea ∙ getD-tabulate (mostRounds + 1) f t h) (ap (λ x. getD x t 0) eb ∙ getD-tabulate (mostRounds + 1) g t h))
 
--- what the code's search finds is the first round that a refusal meets
-module _ (ls : List Lift) {a : List ℕ} where
-  pub found-unheld : {b : List ℕ} {x : Found} → a ≡ table (λ r. named Old r ls) → b ≡ table (λ r. heldIn r ls) → x ≡ first (rounds (λ t. breaks Unheld (getD a t 0) (getD b t 0))) → x ≡ first (rounds (unheld ls))
-  found-unheld ea eb e = e ∙ ap first (tested (breaks Unheld) _ _ ea eb)
+-- what the code's search finds is the first round that breaks a rule
+pub found : (rule : Rule) (f g : ℕ → ℕ) {a b : List ℕ} {x : Found} → a ≡ table f → b ≡ table g → x ≡ first (rounds (λ t. breaks rule (getD a t 0) (getD b t 0)))
+    → x ≡ first (rounds (λ t. breaks rule (f t) (g t)))
+found rule f g ea eb e = e ∙ ap first (tested (breaks rule) f g ea eb)
 
-  pub found-oversize : {x : Found} (side : Side) → a ≡ table (λ r. sumOf side r ls) → x ≡ first (rounds (λ t. breaks Oversize (getD a t 0) (getD a t 0)))
-      → x ≡ first (rounds (oversize side ls))
-  found-oversize side ea e = e ∙ ap first (tested (breaks Oversize) _ _ ea ea)
+pub in-use : (ls : List Lift) {a : List ℕ} {n : ℕ} → a ≡ table (λ r. named New r ls) → n ≡ length (rounds (λ t. ltb 0 (getD a t 0))) → n ≡ length (inUse New ls)
+in-use ls ea e = e ∙ ap length (tested (λ x y. ltb 0 x) _ _ ea ea)
 
-  pub found-unmeasured : {b : List ℕ} {x : Found} → a ≡ table (λ r. named New r ls) → b ≡ table (λ r. sumOf New r ls) → x ≡ first (rounds (λ t. breaks Unmeasured (getD a t 0) (getD b t 0)))
-      → x ≡ first (rounds (unmeasured ls))
-  found-unmeasured ea eb e = e ∙ ap first (tested (breaks Unmeasured) _ _ ea eb)
-
-  pub in-use : {n : ℕ} → a ≡ table (λ r. named New r ls) → n ≡ length (rounds (λ t. ltb 0 (getD a t 0))) → n ≡ length (inUse New ls)
-  in-use ea e = e ∙ ap length (tested (λ x y. ltb 0 x) _ _ ea ea)
-
-pub found-crowded : {ws words counts : List ℕ} {x : Found} → Legible ws → words ≡ donorsOf (lifts ws) → counts ≡ donorCounts words
-    → x ≡ first (rounds (λ t. breaks Crowded (getD counts t 0) (getD counts t 0))) → x ≡ first (rounds (crowded (lifts ws)))
-found-crowded {ws} {words} l ew ec e =
-    e ∙ ap first (tested (breaks Crowded) _ _ ec ec ∙ those-ext 1 mostRounds (λ t _ h. ap (leb 3) (count t (omega arith)) ∙ sym (crowded-donors (lifts ws) t)))
+-- how many donors each round has
+pub counted : {ws words counts : List ℕ} → Legible ws → words ≡ donorsOf (lifts ws) → counts ≡ donorCounts words → counts ≡ table (λ r. length (donors r (lifts ws)))
+counted {ws} {words} l ew ec =
+    tabulated _ (ap length ec ∙ length-tabulate (mostRounds + 1) _) (λ r h. ap (λ t. getD t r 0) ec ∙ getD-tabulate (mostRounds + 1) _ r h ∙ count r (omega arith))
   where
     count : (r : ℕ) → r ≤ mostRounds → ones (getD words (2 * r) 0) + ones (getD words (2 * r + 1) 0) ≡ length (donors r (lifts ws))
     count r h = rw (ew, low-word (lifts ws) r h, high-word (lifts ws) r h) (donors-count ws l r)

@@ -9,6 +9,8 @@ use Rattle.sheet.specs.Reading.{Numbered, numbered, Reading, faulty, sou
 use Rattle.sheet.specs.Rounds.{rounds, named, inUse, sumOf, heldIn, donors}
 use Rattle.sheet.specs.declared.Side.{Side}
 use Rattle.sheet.specs.declared.Side.the-variants.{Old, New}
+use Rattle.sheet.specs.declared.Rule.{Rule}
+use Rattle.sheet.specs.declared.Rule.the-variants.{OneHeld, SmallSum, SomeMeasure, FewDonors}
 use Rattle.sheet.specs.declared.Refusal.{Refusal}
 use Rattle.sheet.specs.declared.Refusal.the-variants.{Length, Sequence, Number, Place, Uncounted, Count, Held, Unheld, Oversize, Unmeasured, Crowded}
 use Rattle.sheet.specs.declared.Judged.{Judged}
@@ -23,21 +25,28 @@ pub data Verdict : Type 0 where
 
 -- ---- the refusals of rounds; those of words are in Reading.antt
 
+-- whether a round breaks a rule, from how many lifts name it and one number more: its held lifts, its sum or its donors
+abbrev pub breaks : Rule → ℕ → ℕ → Bool
+breaks OneHeld lifts held = ltb 0 lifts && not (eqb held 1)
+breaks SmallSum lifts sum = ltb largestSum sum
+breaks SomeMeasure lifts sum = ltb 0 lifts && eqb sum 0
+breaks FewDonors lifts donors = ltb 0 lifts && leb 3 donors
+
 -- "7. An old round from 1 up, named by any lift, without exactly one held lift."
 abbrev pub unheld : List Lift → ℕ → Bool
-unheld ls r = ltb 0 (named Old r ls) && not (eqb (heldIn r ls) 1)
+unheld ls r = breaks OneHeld (named Old r ls) (heldIn r ls)
 
 -- "8. A sum above 1,048,576"
 abbrev pub oversize : Side → List Lift → ℕ → Bool
-oversize side ls r = ltb largestSum (sumOf side r ls)
+oversize side ls r = breaks SmallSum (named side r ls) (sumOf side r ls)
 
 -- "9. A new round whose sum is 0."
 abbrev pub unmeasured : List Lift → ℕ → Bool
-unmeasured ls r = ltb 0 (named New r ls) && eqb (sumOf New r ls) 0
+unmeasured ls r = breaks SomeMeasure (named New r ls) (sumOf New r ls)
 
 -- "10. A new round with three donors or more; the different old rounds that send it measure are counted."
 abbrev pub crowded : List Lift → ℕ → Bool
-crowded ls r = ltb 0 (named New r ls) && leb 3 (length (donors r ls))
+crowded ls r = breaks FewDonors (named New r ls) (length (donors r ls))
 
 -- ---- their order
 

@@ -1,19 +1,17 @@
 -- A lift and the tables by round, as the code reads and gathers them.
 use Prim.Native.Nat.{ℕ, zero, suc, _+_, _*_, _/_, _%_}
-use mathlib.Core.Bool.{Bool, not, _&&_}
+use mathlib.Core.Bool.{Bool, _&&_}
 use mathlib.Core.Path.{_≡_}
 use mathlib.Core.List.{List, [], _∷_}
-use lib.Dec.{eqb, leb, ltb}
+use lib.Dec.{eqb, ltb}
 use lib.ListN.{getD}
 use lib.Count.{ones}
 use Rattle.laws.specs.Sum.{indicator}
-use Rattle.sheet.specs.Sheet.{mostRounds, largestSum, kind, heldKind, Lift, word}
+use Rattle.sheet.specs.Sheet.{mostRounds, kind, heldKind, Lift, word}
 use Rattle.sheet.specs.Rounds.{placeAt, named, sumOf, heldIn, sends}
 use Rattle.sheet.specs.declared.Side.the-variants.{Old, New}
 use Rattle.sheet.specs.declared.Entry.{Entry}
 use Rattle.sheet.specs.declared.Tallies.{Tallies}
-use Rattle.sheet.specs.declared.Rule.{Rule}
-use Rattle.sheet.specs.declared.Rule.the-variants.{Unheld, Oversize, Unmeasured, Crowded}
 use Rattle.sheet.specs.declared.Found.{Found}
 use Rattle.sheet.specs.declared.Found.the-variants.{At, Nothing}
 
@@ -67,14 +65,6 @@ pub record Tabled (ls : List Lift) (t : Tallies) : Type 0 where
   pub new-lifts : t .«new_lifts» ≡ table (λ r. named New r ls)
   pub new-sums : t .«new_sums» ≡ table (λ r. sumOf New r ls)
   pub donors : t .donors ≡ donorsOf ls
-
--- the tests of the refusals of rounds, on two numbers of a round: how many lifts and how many held, the sum, how many lifts and the
--- sum, how many donors
-abbrev pub breaks : Rule → ℕ → ℕ → Bool
-breaks Unheld lifts held = ltb 0 lifts && not (eqb held 1)
-breaks Oversize sum same = ltb largestSum sum
-breaks Unmeasured lifts sum = ltb 0 lifts && eqb sum 0
-breaks Crowded donors same = leb 3 donors
 
 -- the first of some rounds, if there is one
 abbrev pub first : List ℕ → Found

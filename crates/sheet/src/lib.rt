@@ -10,8 +10,8 @@ ghost use Rattle.laws.specs.Sum.{indicator};
 ghost use Rattle.sheet.specs.Sheet.{largestSum, longest, kind as kindOf, payload as payloadOf, placeOf, liftOf, lifts, word as wordOf};
 ghost use Rattle.sheet.specs.Reading.{next as nextOf, follows as followsOf, misnumbered as misnumberedOf, isPlace, tooLarge as tooLargeOf, beyond as beyondOf, misplaced as misplacedOf, uncountedNewcomer as uncountedNewcomerOf, miscounted as miscountedOf, mismarked as mismarkedOf, fault, unless, sound, reading, ofWords, Legible};
 ghost use Rattle.sheet.specs.Rounds.{rounds, filledIn as filledInOf};
-ghost use Rattle.sheet.specs.Refusal.{ofRounds, verdict, refusal, told, toldOfWords};
-ghost use Rattle.sheet.specs.Tables.{Marked, entryOf, bitOf, donorCounts, Tabled, breaks as breaksOf, first as firstOf};
+ghost use Rattle.sheet.specs.Refusal.{breaks as breaksOf, ofRounds, verdict, refusal, told, toldOfWords};
+ghost use Rattle.sheet.specs.Tables.{Marked, entryOf, bitOf, donorCounts, Tabled, first as firstOf};
 ghost use Rattle.sheet.specs.Law.{Answered};
 
 // A sheet that fits: how many lifts and how many new rounds it has.
@@ -175,13 +175,12 @@ pub enum Side {
     New,
 }
 
-// The refusals of a round, each from two numbers: how many lifts and how many held, the sum, how many lifts and the sum, how many
-// donors.
+// What a round must have: exactly one held lift, a sum that is not too large, some measure, at most two donors.
 enum Rule {
-    Unheld,
-    Oversize,
-    Unmeasured,
-    Crowded,
+    OneHeld,
+    SmallSum,
+    SomeMeasure,
+    FewDonors,
 }
 
 // A lift as its words tell it: its number, old round and measure, new round and the new measure that counts, and whether it is held.
@@ -556,25 +555,25 @@ fn survey(sheet: &[u32]) -> Tallies
 
 // ---- the rounds
 
-// Whether a refusal applies to a round, from two of its numbers.
-fn breaks(rule: Rule, a: u64, b: u64) -> bool
-    ensures { λ r. ⌜ r ≡ breaksOf rule a b ⌝ }
+// Whether a round breaks a rule, from how many lifts name it and the number that the rule is about.
+fn breaks(rule: Rule, lifts: u64, n: u64) -> bool
+    ensures { λ r. ⌜ r ≡ breaksOf rule lifts n ⌝ }
 {
     match rule {
-        Rule::Unheld => 0 < a && b != 1,
-        Rule::Oversize => Sheet::LARGEST_SUM < a,
-        Rule::Unmeasured => 0 < a && b == 0,
-        Rule::Crowded => 3 <= a,
+        Rule::OneHeld => 0 < lifts && n != 1,
+        Rule::SmallSum => Sheet::LARGEST_SUM < n,
+        Rule::SomeMeasure => 0 < lifts && n == 0,
+        Rule::FewDonors => 0 < lifts && 3 <= n,
     }
 }
 
-// The first round that a refusal applies to, from two tables.
-fn first<'a>(rule: Rule, a: &'a [u64; Sheet::TABLE], b: &'a [u64; Sheet::TABLE]) -> Found
-    ensures { λ r. ⌜ r ≡ firstOf (rounds (λ t. breaksOf rule (getD (now (a .entry)) t 0) (getD (now (b .entry)) t 0))) ⌝ }
+// The first round that breaks a rule, from the tables of both numbers.
+fn first<'a>(rule: Rule, lifts: &'a [u64; Sheet::TABLE], numbers: &'a [u64; Sheet::TABLE]) -> Found
+    ensures { λ r. ⌜ r ≡ firstOf (rounds (λ t. breaksOf rule (getD (now (lifts .entry)) t 0) (getD (now (numbers .entry)) t 0))) ⌝ }
 {
     let mut r = 1;
     while r <= Sheet::MOST_ROUNDS {
-        if breaks(rule, a[r], b[r]) {
+        if breaks(rule, lifts[r], numbers[r]) {
             return Found::At(r);
         }
         r += 1;
@@ -639,20 +638,20 @@ fn check_rounds(sheet: &[u32], t: Tallies) -> Checked
     requires { ⌜ Tabled (lifts (now sheet)) t ⌝ }
     ensures { λ r. ⌜ told r ≡ ofRounds (lifts (now (sheet .entry))) ⌝ }
 {
-    if let Found::At(r) = first(Rule::Unheld, &t.old_lifts, &t.held) {
+    if let Found::At(r) = first(Rule::OneHeld, &t.old_lifts, &t.held) {
         return Checked::Refused(Refusal::Unheld(r));
     }
-    if let Found::At(r) = first(Rule::Oversize, &t.old_sums, &t.old_sums) {
+    if let Found::At(r) = first(Rule::SmallSum, &t.old_lifts, &t.old_sums) {
         return Checked::Refused(Refusal::Oversize(r));
     }
-    if let Found::At(r) = first(Rule::Oversize, &t.new_sums, &t.new_sums) {
+    if let Found::At(r) = first(Rule::SmallSum, &t.new_lifts, &t.new_sums) {
         return Checked::Refused(Refusal::Oversize(r));
     }
-    if let Found::At(r) = first(Rule::Unmeasured, &t.new_lifts, &t.new_sums) {
+    if let Found::At(r) = first(Rule::SomeMeasure, &t.new_lifts, &t.new_sums) {
         return Checked::Refused(Refusal::Unmeasured(r));
     }
     let donors = donor_counts(t.donors);
-    if let Found::At(r) = first(Rule::Crowded, &donors, &donors) {
+    if let Found::At(r) = first(Rule::FewDonors, &t.new_lifts, &donors) {
         return Checked::Refused(Refusal::Crowded(r));
     }
     Checked::Fits(Sheet {

@@ -32,7 +32,10 @@ returns-5 : tie.Need-returns-5
 returns-5 c = rw (c .before .enum-told3 .given .1, le-ltb _ _ (c .if2 .left))
 
 returns-6 : tie.Need-returns-6
-returns-6 c = rw (c .enum-told4 .given .1)
+returns-6 c = rw (c .before .enum-told4 .given .1, lt-ltb _ _ (c .if3 .taken))
+
+returns-7 : tie.Need-returns-7
+returns-7 c = rw (c .before .enum-told4 .given .1, le-ltb _ _ (c .if3 .left))
 
 pub breaks-spec : {M : Type 1} → statement M
 breaks-spec =
@@ -47,4 +50,5 @@ breaks-spec =
     returns-3
     returns-4
     returns-5
-    returns-6)
+    returns-6
+    returns-7)

@@ -6,8 +6,9 @@ use Rattle.sheet.specs.Rounds.{rounds}
 use Rattle.sheet.specs.Refusal.{fits, unheld, oversize, unmeasured, crowded}
 use Rattle.sheet.specs.Tables.{first, Tabled}
 use Rattle.sheet.specs.declared.Side.the-variants.{Old, New}
+use Rattle.sheet.specs.declared.Rule.the-variants.{OneHeld, SmallSum, SomeMeasure, FewDonors}
 use Rattle.sheet.specs.declared.Found.the-variants.{Nothing}
-use Rattle.sheet.proofs.Verdicts.{found-unheld, found-oversize, found-unmeasured, found-crowded, in-use, at-unheld, at-old, at-new, at-unmeasured, at-crowded, at-last}
+use Rattle.sheet.proofs.Verdicts.{found, in-use, counted, at-unheld, at-old, at-new, at-unmeasured, at-crowded, at-last}
 use borrow.Author.Needs.{needs}
 use Rattle.sheet.proofs.check_rounds.Statement.{statement}
 use Rattle.sheet.proofs.check_rounds.Tie as tie
@@ -19,21 +20,21 @@ ls c = lifts (c .before .before .before .before .before .args .sheet .now)
 tabled : (c : tie.After-first) → Tabled (ls c) (c .before .before .before .before .before .args .t2)
 tabled c = c .before .before .before .before .before .pre .1
 
--- each search finds the first round that a refusal applies to
-found1 : (c : tie.After-first) → c .first .result ≡ first (rounds (unheld (ls (c))))
-found1 c = found-unheld (ls c) (tabled c .old-lifts) (tabled c .held) (c .first .ensures)
+-- each search finds the first round that a refusal meets
+found1 : (c : tie.After-first) → c .first .result ≡ first (rounds (unheld (ls c)))
+found1 c = found OneHeld _ _ (tabled c .old-lifts) (tabled c .held) (c .first .ensures)
 
 found2 : (c : tie.After-first2) → c .first2 .result ≡ first (rounds (oversize Old (ls (c .before .before .before .before .before .before))))
-found2 c = found-oversize (ls (c .before .before .before .before .before .before)) Old (tabled (c .before .before .before .before .before .before) .old-sums) (c .first2 .ensures)
+found2 c = found SmallSum _ _ (tabled (c .before .before .before .before .before .before) .old-lifts) (tabled (c .before .before .before .before .before .before) .old-sums) (c .first2 .ensures)
 
 found3 : (c : tie.After-first3) → c .first3 .result ≡ first (rounds (oversize New (ls (c .before .before .before .before .before .before .before .before .before .before .before .before))))
-found3 c = found-oversize (ls (c .before .before .before .before .before .before .before .before .before .before .before .before)) New (tabled (c .before .before .before .before .before .before .before .before .before .before .before .before) .new-sums) (c .first3 .ensures)
+found3 c = found SmallSum _ _ (tabled (c .before .before .before .before .before .before .before .before .before .before .before .before) .new-lifts) (tabled (c .before .before .before .before .before .before .before .before .before .before .before .before) .new-sums) (c .first3 .ensures)
 
 found4 : (c : tie.After-first4) → c .first4 .result ≡ first (rounds (unmeasured (ls (c .before .before .before .before .before .before .before .before .before .before .before .before .before .before .before .before .before .before))))
-found4 c = found-unmeasured (ls (c .before .before .before .before .before .before .before .before .before .before .before .before .before .before .before .before .before .before)) (tabled (c .before .before .before .before .before .before .before .before .before .before .before .before .before .before .before .before .before .before) .new-lifts) (tabled (c .before .before .before .before .before .before .before .before .before .before .before .before .before .before .before .before .before .before) .new-sums) (c .first4 .ensures)
+found4 c = found SomeMeasure _ _ (tabled (c .before .before .before .before .before .before .before .before .before .before .before .before .before .before .before .before .before .before) .new-lifts) (tabled (c .before .before .before .before .before .before .before .before .before .before .before .before .before .before .before .before .before .before) .new-sums) (c .first4 .ensures)
 
-found5 : (c : tie.After-first5) → c .first5 .result ≡ first (rounds (crowded (ls (c .before .before .before .before .before .before .before .before .before .before .before .before .before .before .before .before .before .before .before .before .before .before .before .before .before))))
-found5 c = found-crowded (c .before .before .before .before .before .before .before .before .before .before .before .before .before .before .before .before .before .before .before .before .before .before .before .before .before .before .before .before .before .before .pre .0) (tabled (c .before .before .before .before .before .before .before .before .before .before .before .before .before .before .before .before .before .before .before .before .before .before .before .before .before) .donors) (c .before .before .before .donor-counts .ensures) (c .first5 .ensures)
+found5 : (c : tie.After-first5) → c .first5 .result ≡ first (rounds (crowded (ls (c .before .before .before .before .before .before .before .before .before .before .before .before .before .before .before .before .before .before .before .before .before .before .before .before .before .before))))
+found5 c = found FewDonors _ _ (tabled (c .before .before .before .before .before .before .before .before .before .before .before .before .before .before .before .before .before .before .before .before .before .before .before .before .before .before) .new-lifts) (counted (c .before .before .before .before .before .before .before .before .before .before .before .before .before .before .before .before .before .before .before .before .before .before .before .before .before .before .before .before .before .before .before .pre .0) (tabled (c .before .before .before .before .before .before .before .before .before .before .before .before .before .before .before .before .before .before .before .before .before .before .before .before .before .before) .donors) (c .before .before .before .before .donor-counts .ensures)) (c .first5 .ensures)
 
 -- what each search that found nothing says
 none1 : (c : tie.After-enum-told) → Nothing ≡ first (rounds (unheld (ls (c .before .before))))
@@ -48,7 +49,7 @@ none3 c = sym (c .enum-told3 .given .1) ∙ found3 (c .before .before)
 none4 : (c : tie.After-enum-told4) → Nothing ≡ first (rounds (unmeasured (ls (c .before .before .before .before .before .before .before .before .before .before .before .before .before .before .before .before .before .before .before .before))))
 none4 c = sym (c .enum-told4 .given .1) ∙ found4 (c .before .before)
 
-none5 : (c : tie.After-enum-told5) → Nothing ≡ first (rounds (crowded (ls (c .before .before .before .before .before .before .before .before .before .before .before .before .before .before .before .before .before .before .before .before .before .before .before .before .before .before .before))))
+none5 : (c : tie.After-enum-told5) → Nothing ≡ first (rounds (crowded (ls (c .before .before .before .before .before .before .before .before .before .before .before .before .before .before .before .before .before .before .before .before .before .before .before .before .before .before .before .before))))
 none5 c = sym (c .enum-told5 .given .1) ∙ found5 (c .before .before)
 
 first-requires : tie.Need-first-requires
@@ -109,21 +110,21 @@ enum-known-r-5 : tie.Need-enum-known-r-5
 enum-known-r-5 c = search needs
 
 returns-5 : tie.Need-returns-5
-returns-5 c = at-crowded (ls (c .before .before .before .before .before .before .before .before .before .before .before .before .before .before .before .before .before .before .before .before .before .before .before .before .before .before .before .before)) (none1 (c .before .before .before .before .before .before .before .before .before .before .before .before .before .before .before .before .before .before .before .before .before .before .before .before .before .before)) (none2 (c .before .before .before .before .before .before .before .before .before .before .before .before .before .before .before .before .before .before .before .before)) (none3 (c .before .before .before .before .before .before .before .before .before .before .before .before .before .before)) (none4 (c .before .before .before .before .before .before .before .before)) (sym (c .before .r5 .given .1) ∙ found5 (c .before .before .before))
+returns-5 c = at-crowded (ls (c .before .before .before .before .before .before .before .before .before .before .before .before .before .before .before .before .before .before .before .before .before .before .before .before .before .before .before .before .before)) (none1 (c .before .before .before .before .before .before .before .before .before .before .before .before .before .before .before .before .before .before .before .before .before .before .before .before .before .before .before)) (none2 (c .before .before .before .before .before .before .before .before .before .before .before .before .before .before .before .before .before .before .before .before .before)) (none3 (c .before .before .before .before .before .before .before .before .before .before .before .before .before .before .before)) (none4 (c .before .before .before .before .before .before .before .before .before)) (sym (c .before .r5 .given .1) ∙ found5 (c .before .before .before))
 
 enum-told-5 : tie.Need-enum-told-5
 enum-told-5 c = search needs
 
 size-requires : tie.Need-size-requires
-size-requires c κs = c .before .before .before .before .before .before .before .before .before .before .before .before .before .before .before .before .before .before .before .before .before .before .before .before .before .before .before .before .before .before .before .before .pre .0
+size-requires c κs = c .before .before .before .before .before .before .before .before .before .before .before .before .before .before .before .before .before .before .before .before .before .before .before .before .before .before .before .before .before .before .before .before .before .pre .0
 
 in-use-requires : tie.Need-in-use-requires
 in-use-requires c κs = search needs
 
 returns-6 : tie.Need-returns-6
 returns-6 c =
-    ap₂ fits (c .before .before .before .size .ensures) (in-use (ls (c .before .before .before .before .before .before .before .before .before .before .before .before .before .before .before .before .before .before .before .before .before .before .before .before .before .before .before .before .before .before .before)) (tabled (c .before .before .before .before .before .before .before .before .before .before .before .before .before .before .before .before .before .before .before .before .before .before .before .before .before .before .before .before .before .before .before) .new-lifts) (c .in-use .ensures))
-    ∙ at-last (ls (c .before .before .before .before .before .before .before .before .before .before .before .before .before .before .before .before .before .before .before .before .before .before .before .before .before .before .before .before .before .before .before)) (none1 (c .before .before .before .before .before .before .before .before .before .before .before .before .before .before .before .before .before .before .before .before .before .before .before .before .before .before .before .before .before)) (none2 (c .before .before .before .before .before .before .before .before .before .before .before .before .before .before .before .before .before .before .before .before .before .before .before)) (none3 (c .before .before .before .before .before .before .before .before .before .before .before .before .before .before .before .before .before)) (none4 (c .before .before .before .before .before .before .before .before .before .before .before)) (none5 (c .before .before .before .before))
+    ap₂ fits (c .before .before .before .size .ensures) (in-use (ls (c .before .before .before .before .before .before .before .before .before .before .before .before .before .before .before .before .before .before .before .before .before .before .before .before .before .before .before .before .before .before .before .before)) (tabled (c .before .before .before .before .before .before .before .before .before .before .before .before .before .before .before .before .before .before .before .before .before .before .before .before .before .before .before .before .before .before .before .before) .new-lifts) (c .in-use .ensures))
+    ∙ at-last (ls (c .before .before .before .before .before .before .before .before .before .before .before .before .before .before .before .before .before .before .before .before .before .before .before .before .before .before .before .before .before .before .before .before)) (none1 (c .before .before .before .before .before .before .before .before .before .before .before .before .before .before .before .before .before .before .before .before .before .before .before .before .before .before .before .before .before .before)) (none2 (c .before .before .before .before .before .before .before .before .before .before .before .before .before .before .before .before .before .before .before .before .before .before .before .before)) (none3 (c .before .before .before .before .before .before .before .before .before .before .before .before .before .before .before .before .before .before)) (none4 (c .before .before .before .before .before .before .before .before .before .before .before .before)) (none5 (c .before .before .before .before))
 
 pub check-rounds-spec : {M : Type 1} → statement M
 check-rounds-spec =

@@ -1,8 +1,8 @@
--- `sheet::first` meets its contract: the first round that passes is the first from r up. Assumes nothing.
+-- `sheet::first` meets its contract: the first round that breaks the rule is the first from r up. Assumes nothing.
 use Prim.Native.Nat.{_+_, _-_}
 use lib.ListN.{getD}
 use Rattle.sheet.specs.Sheet.{mostRounds}
-use Rattle.sheet.specs.Tables.{breaks}
+use Rattle.sheet.specs.Refusal.{breaks}
 use Rattle.sheet.proofs.Those.{Sought, sought-none, sought-turn}
 use Rattle.sheet.proofs.Searches.{found, missed}
 use borrow.Author.Needs.{needs}
@@ -10,10 +10,10 @@ use Rattle.sheet.proofs.first.Statement.{statement}
 use Rattle.sheet.proofs.first.Tie as tie
 
 abbrev Inv-loop : tie.InvT-loop
-Inv-loop rule a b r₀ r = Sought (λ t. breaks rule (getD a t 0) (getD b t 0)) 1 r
+Inv-loop rule lifts numbers r₀ r = Sought (λ t. breaks rule (getD lifts t 0) (getD numbers t 0)) 1 r
 
 abbrev μ-loop : tie.MeasureT-loop
-μ-loop rule a b r₀ r = mostRounds + 1 - r
+μ-loop rule lifts numbers r₀ r = mostRounds + 1 - r
 
 loop-holds : tie.Need-loop-holds Inv-loop μ-loop
 loop-holds c = sought-none _ _
