@@ -3,6 +3,7 @@ use Prim.Native.Nat.{ℕ, zero, suc, _+_, _-_, _^_, _≤_, _<_}
 use mathlib.Core.Path.{_≡_, refl, sym, ap, ap₂, _∙_}
 use mathlib.Core.Bool.{Bool, true, false, cond, not, _&&_, _||_, and-false}
 use mathlib.Core.List.{List, [], _∷_, _++_, map, append-assoc, append-nil}
+use mathlib.Core.Option.{Option, none, some}
 use native.Mathlib.Omega.{arith}
 use lib.Dec.{eqb}
 use lib.ListN.{length, getD, set, drop, replicate, drop-of-length-le, length-append, length-map, length-replicate}
@@ -13,8 +14,8 @@ use Rattle.sheet.specs.declared.Found.{Found}
 use Rattle.sheet.specs.declared.Found.the-variants.{At, Nothing}
 use Rattle.counts.specs.Text.{LF, lines, before, behind, allDigits, value, empty, isNumber, largestLift, largestCount, Entry, counted, malformed, entry}
 use Rattle.laws.specs.Among.{among}
-use Rattle.counts.specs.Counts.{atLine, linesFrom, numbersOf, hundreds, remeasured, measuredBy, measured}
-use Rattle.counts.specs.Scan.{line, extent, lineOf, lineAt, RisingAbove, Numbers, Located, slotBy, slot, slots, Tells, liftWith, liftsWith}
+use Rattle.counts.specs.Counts.{atLine, linesFrom, numbersOf, hundreds, remeasured, countBy, countFor, measuredBy, measured}
+use Rattle.counts.specs.Scan.{line, extent, lineOf, lineAt, RisingAbove, Numbers, Located, slotOf, slot, slots, Tells, liftWith, liftsWith}
 use Rattle.counts.specs.declared.Line.{Line}
 use Rattle.counts.specs.declared.Line.the-variants.{Entry as EntryLine, Malformed}
 use Rattle.counts.specs.declared.Lines.the-variants.{Form, Lift as AboutLift, All}
@@ -30,18 +31,19 @@ slot-at xs (n ∷ ns) zero h = refl
 slot-at xs (n ∷ ns) (suc k) h = slot-at xs ns k (omega arith)
 
 -- one line more fills a slot that is free
-slot-last : (xs : List (List ℕ)) (x : List ℕ) (n : ℕ) → slot (xs ++ (x ∷ [])) n ≡ cond (eqb (slot xs n) 0) (slotBy (entry x) n 0) (slot xs n)
-unfolding slot
+slot-last : (xs : List (List ℕ)) (x : List ℕ) (n : ℕ) → slot (xs ++ (x ∷ [])) n ≡ cond (eqb (slot xs n) 0) (slotOf (countBy (entry x) n none)) (slot xs n)
+unfolding countFor
 slot-last [] x n = refl
 slot-last (y ∷ ys) x n = go (entry y) (slot-last ys x n)
   where
-    go : (e : Entry) → slot (ys ++ (x ∷ [])) n ≡ cond (eqb (slot ys n) 0) (slotBy (entry x) n 0) (slot ys n)
-        → slotBy e n (slot (ys ++ (x ∷ [])) n) ≡ cond (eqb (slotBy e n (slot ys n)) 0) (slotBy (entry x) n 0) (slotBy e n (slot ys n))
+    go : (e : Entry) → slot (ys ++ (x ∷ [])) n ≡ cond (eqb (slot ys n) 0) (slotOf (countBy (entry x) n none)) (slot ys n)
+        → slotOf (countBy e n (countFor (ys ++ (x ∷ [])) n))
+        ≡ cond (eqb (slotOf (countBy e n (countFor ys n))) 0) (slotOf (countBy (entry x) n none)) (slotOf (countBy e n (countFor ys n)))
     go malformed h = h
     go (counted m c) h = by (eqb m n)
       where
-        by : (t : Bool) → cond t (hundreds c + 1) (slot (ys ++ (x ∷ [])) n)
-            ≡ cond (eqb (cond t (hundreds c + 1) (slot ys n)) 0) (slotBy (entry x) n 0) (cond t (hundreds c + 1) (slot ys n))
+        by : (t : Bool) → slotOf (cond t (some c) (countFor (ys ++ (x ∷ [])) n))
+            ≡ cond (eqb (slotOf (cond t (some c) (countFor ys n))) 0) (slotOf (countBy (entry x) n none)) (slotOf (cond t (some c) (countFor ys n)))
         by true = rw (ne-eqb (hundreds c + 1) 0 (omega arith))
         by false = h
 
@@ -135,19 +137,27 @@ lift-small l e = omega (arith, entry-small l e .0)
 pub count-small : (l : List ℕ) {n c : ℕ} → entry l ≡ counted n c → c ≤ largestCount
 count-small l e = entry-small l e .1
 
+-- so is a lift's count
+pub for-small : (xs : List (List ℕ)) (n : ℕ) {c : ℕ} → countFor xs n ≡ some c → c ≤ largestCount
+unfolding countFor
+for-small [] n {c} q = let z : _≡_ {A = ℕ} 0 1 = cc in absurd (omega arith)
+for-small (x ∷ xs) n {c} q = go (entry x) refl q (for-small xs n)
+  where
+    go : (e : Entry) → entry x ≡ e → countBy e n (countFor xs n) ≡ some c → (countFor xs n ≡ some c → c ≤ largestCount) → c ≤ largestCount
+    go malformed h q r = r q
+    go (counted m d) h q r = by (eqb m n) q
+      where
+        by : (t : Bool) → cond t (some d) (countFor xs n) ≡ some c → c ≤ largestCount
+        by true q = let e : d ≡ c = cc in omega (arith, count-small x h)
+        by false q = r q
+
 -- every slot is small
 pub slot-small : (xs : List (List ℕ)) (n : ℕ) → slot xs n ≤ largestSum + 1
-unfolding slot
-slot-small [] n = omega arith
-slot-small (x ∷ xs) n = go (entry x) refl (slot-small xs n)
+slot-small xs n = go (countFor xs n) refl
   where
-    go : (e : Entry) → entry x ≡ e → slot xs n ≤ largestSum + 1 → slotBy e n (slot xs n) ≤ largestSum + 1
-    go malformed q h = h
-    go (counted m c) q h = by (eqb m n)
-      where
-        by : (t : Bool) → cond t (hundreds c + 1) (slot xs n) ≤ largestSum + 1
-        by true = omega (arith, count-small x q)
-        by false = h
+    go : (o : Option ℕ) → countFor xs n ≡ o → slotOf o ≤ largestSum + 1
+    go none e = omega arith
+    go (some c) e = omega (arith, for-small xs n e)
 
 -- ---- the loop
 
@@ -163,12 +173,12 @@ pub record Kept (text ns measures : List ℕ) (start i : ℕ) : Type 0 where
 
 -- no line yet: every slot is 0
 slots-zero : (ns : List ℕ) → slots ns [] ≡ replicate (length ns) 0
-unfolding slot
+unfolding countFor
 slots-zero [] = refl
 slots-zero (n ∷ ns) = ap (λ vs. 0 ∷ vs) (slots-zero ns)
 
 pub kept-none : (text ns : List ℕ) {measures : List ℕ} → measures ≡ replicate (length ns) 0 → Kept text ns measures 0 0
-unfolding among slot
+unfolding among countFor
 kept-none text ns e =
     record { done = []; had = []; parted = refl; same = refl; many = refl; heard = λ n. refl; filled = e ∙ sym (slots-zero ns); few = omega arith }
 
@@ -247,20 +257,11 @@ module _ {text ns measures : List ℕ} {start i : ℕ} (d : Kept text ns measure
 
 -- ---- the lifts with the measures of their slots
 
-lift-slot : (xs : List (List ℕ)) (l : Lift) → liftWith l (slot xs (l .number)) ≡ measured xs l
-unfolding slot measured
-lift-slot [] l = refl
-lift-slot (x ∷ xs) l = go (entry x) (lift-slot xs l)
-  where
-    go : (e : Entry) → liftWith l (slot xs (l .number)) ≡ measured xs l → liftWith l (slotBy e (l .number) (slot xs (l .number))) ≡ measuredBy e l (measured xs l)
-    go malformed r = r
-    go (counted n c) r = by (eqb n (l .number))
-      where
-        by : (t : Bool) → liftWith l (cond t (hundreds c + 1) (slot xs (l .number))) ≡ cond t (remeasured l (hundreds c)) (measured xs l)
-        by true = let m : hundreds c + 1 - 1 ≡ hundreds c = omega arith in rw (ne-eqb (hundreds c + 1) 0 (omega arith), m)
-        by false = r
+lift-slot : (l : Lift) (o : Option ℕ) → liftWith l (slotOf o) ≡ measuredBy l o
+lift-slot l none = refl
+lift-slot l (some c) = let m : hundreds c + 1 - 1 ≡ hundreds c = omega arith in rw (ne-eqb (hundreds c + 1) 0 (omega arith), m)
 
 pub lifts-slots : (xs : List (List ℕ)) (ls : List Lift) → liftsWith ls (slots (numbersOf ls) xs) ≡ map (measured xs) ls
 unfolding liftsWith
 lifts-slots xs [] = refl
-lifts-slots xs (l ∷ ls) = rw (lift-slot xs l, lifts-slots xs ls)
+lifts-slots xs (l ∷ ls) = ap₂ _∷_ (lift-slot l (countFor xs (l .number))) (lifts-slots xs ls)

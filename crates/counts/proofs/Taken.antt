@@ -4,6 +4,7 @@ use Prim.Native.Nat.{ℕ, zero, suc, _+_, _<_}
 use mathlib.Core.Path.{_≡_, refl, sym, _∙_}
 use mathlib.Core.Bool.{Bool, true, false, cond, not, _&&_, _||_, true≢false}
 use mathlib.Core.List.{List, [], _∷_, map}
+use mathlib.Core.Option.{Option, none, some}
 use native.Mathlib.Omega.{arith}
 use lib.Dec.{eqb}
 use lib.ListN.{length, getD, length-map}
@@ -17,9 +18,9 @@ use Rattle.sheet.proofs.Trips.{placed-writable, read-theorem, back-theorem}
 use Rattle.sheet.proofs.Verdicts.{legible-words, decided, read-through}
 use Rattle.counts.specs.Text.{lines, Entry, counted, malformed, entry}
 use Rattle.laws.specs.Among.{among}
-use Rattle.counts.specs.Counts.{atLine, linesFrom, numbersOf, ofLines, hundreds, remeasured, measuredBy, measured, renewed, answer}
+use Rattle.counts.specs.Counts.{atLine, linesFrom, numbersOf, ofLines, hundreds, remeasured, countFor, measuredBy, measured, renewed, answer}
 use Rattle.counts.specs.Law.{TakenLine, Takes}
-use Rattle.counts.proofs.Slots.{count-small}
+use Rattle.counts.proofs.Slots.{count-small, for-small}
 
 -- ---- the lines
 
@@ -62,7 +63,7 @@ not-among n m ms h = go (eqb m n) refl h
     go false e h = (eqb-false m n e, h)
 
 each-line : (ns had : List ℕ) (i : ℕ) (xs : List (List ℕ)) → linesFrom ns had i xs ≡ sound → (j : ℕ) → j < length xs → Line ns had xs (getD xs j [])
-unfolding linesFrom measured
+unfolding linesFrom countFor
 each-line ns had i [] h j l = absurd (omega arith)
 each-line ns had i (x ∷ xs) h j l =
     let e = entered x i ns had (λ n. linesFrom ns (n ∷ had) (i + 1) xs) h in
@@ -100,17 +101,12 @@ each-line ns had i (x ∷ xs) h j l =
 -- ---- the words
 
 measured-writable : (xs : List (List ℕ)) (l : Lift) → Writable l → Writable (measured xs l)
-unfolding measured
-measured-writable [] l w = w
-measured-writable (x ∷ xs) l w = go (entry x) refl (measured-writable xs l w)
+measured-writable xs l w = go (countFor xs (l .number)) refl
   where
-    go : (e : Entry) → entry x ≡ e → Writable (measured xs l) → Writable (measuredBy e l (measured xs l))
-    go malformed q r = r
-    go (counted n c) q r = by (eqb n (l .number))
-      where
-        by : (t : Bool) → Writable (cond t (remeasured l (hundreds c)) (measured xs l))
-        by true = record { number = w .number; old = w .old; new = record { round = w .new .round; measure = omega (arith, count-small x q) } }
-        by false = r
+    go : (o : Option ℕ) → countFor xs (l .number) ≡ o → Writable (measuredBy l o)
+    go none e = w
+    go (some c) e =
+        record { number = w .number; old = w .old; new = record { round = w .new .round; measure = omega (arith, for-small xs (l .number) e) } }
 
 all-writable : (xs : List (List ℕ)) (n : ℕ) (ls : List Lift) → Listed n ls → AllWritable (map (measured xs) ls)
 unfolding Listed AllWritable

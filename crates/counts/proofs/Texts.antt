@@ -14,7 +14,7 @@ use borrow.Author.Tests.{eq-eqb, ne-eqb, not-true}
 use Rattle.sheet.specs.declared.Found.{Found}
 use Rattle.sheet.specs.declared.Found.the-variants.{At, Nothing}
 use Rattle.counts.specs.Text.{LF, CR, comma, ahead, endingCR, lines, before, behind, isDigit, allDigits, value, empty, isNumber, largestLift, largestCount, counted, malformed, entry}
-use Rattle.counts.specs.Scan.{span, leading, pickNumber, numberAt, line, extent, pickFound, endingAt, lineAt}
+use Rattle.counts.specs.Scan.{span, leading, numberAt, line, extent, endingAt, lineAt}
 use Rattle.counts.specs.declared.Number.{Number}
 use Rattle.counts.specs.declared.Number.the-variants.{Is, Not}
 use Rattle.counts.specs.declared.Line.the-variants.{Entry as EntryLine, Malformed}
@@ -208,14 +208,14 @@ module _ (limit : ℕ) (text : List ℕ) (start : ℕ) where
       → (isNumber limit (leading (drop start text)) ≡ true) × (a ≡ value (leading (drop start text))) × (b ≡ start + span (drop start text))
   number-is {a} {b} {x} h e = go (isNumber limit (leading (drop start text))) (value (leading (drop start text))) (start + span (drop start text)) h
     where
-      go : (t : Bool) (v n : ℕ) → x ≡ pickNumber t (Is v n) Not → (t ≡ true) × (a ≡ v) × (b ≡ n)
+      go : (t : Bool) (v n : ℕ) → x ≡ cond t (Is v n) Not → (t ≡ true) × (a ≡ v) × (b ≡ n)
       go true v n h = (refl, cc, cc)
       go false v n h = (cc, cc, cc)
 
   number-not : {x : Number} → x ≡ numberAt limit text start → x ≡ Not → isNumber limit (leading (drop start text)) ≡ false
   number-not {x} h e = go (isNumber limit (leading (drop start text))) (value (leading (drop start text))) (start + span (drop start text)) h
     where
-      go : (t : Bool) (v n : ℕ) → x ≡ pickNumber t (Is v n) Not → t ≡ false
+      go : (t : Bool) (v n : ℕ) → x ≡ cond t (Is v n) Not → t ≡ false
       go true v n h = cc
       go false v n h = refl
 
@@ -223,14 +223,14 @@ module _ (text : List ℕ) (start : ℕ) where
   ending-at : {a : ℕ} {x : Found} → x ≡ endingAt text start → x ≡ At a → (empty (line (drop start text)) ≡ true) × (a ≡ start + extent (drop start text))
   ending-at {a} {x} h e = go (empty (line (drop start text))) (start + extent (drop start text)) h
     where
-      go : (t : Bool) (n : ℕ) → x ≡ pickFound t (At n) Nothing → (t ≡ true) × (a ≡ n)
+      go : (t : Bool) (n : ℕ) → x ≡ cond t (At n) Nothing → (t ≡ true) × (a ≡ n)
       go true n h = (refl, cc)
       go false n h = (cc, cc)
 
   ending-none : {x : Found} → x ≡ endingAt text start → x ≡ Nothing → empty (line (drop start text)) ≡ false
   ending-none {x} h e = go (empty (line (drop start text))) (start + extent (drop start text)) h
     where
-      go : (t : Bool) (n : ℕ) → x ≡ pickFound t (At n) Nothing → t ≡ false
+      go : (t : Bool) (n : ℕ) → x ≡ cond t (At n) Nothing → t ≡ false
       go true n h = cc
       go false n h = refl
 

@@ -2,6 +2,7 @@
 use Prim.Native.Nat.{ℕ, _+_, _/_}
 use mathlib.Core.Bool.{cond, not, _&&_}
 use mathlib.Core.List.{List, [], _∷_, map}
+use mathlib.Core.Option.{Option, none, some}
 use lib.Dec.{eqb}
 use lib.ListN.{length}
 use Rattle.laws.specs.Among.{among}
@@ -43,15 +44,23 @@ hundreds c = (c + 99) / 100
 abbrev pub remeasured : Lift → ℕ → Lift
 remeasured l m = record { number = l .number; old = l .old; new = record { round = l .new .round; measure = m }; held = l .held }
 
--- "the lift's new measure becomes the count divided by 100, rounded up", if the line is the lift's
-abbrev pub measuredBy : Entry → Lift → Lift → Lift
-measuredBy (counted n c) l other = cond (eqb n (l .number)) (remeasured l (hundreds c)) other
-measuredBy malformed l other = other
+-- the count of lift n: that of a line, if it is the lift's, else another
+abbrev pub countBy : Entry → ℕ → Option ℕ → Option ℕ
+countBy (counted m c) n other = cond (eqb m n) (some c) other
+countBy malformed n other = other
 
--- "Lifts without a line keep theirs."
-unfoldable pub measured : List (List ℕ) → Lift → Lift
-measured [] l = l
-measured (x ∷ xs) l = measuredBy (entry x) l (measured xs l)
+-- the count that the lines have for lift n, if one is the lift's
+unfoldable pub countFor : List (List ℕ) → ℕ → Option ℕ
+countFor [] n = none
+countFor (x ∷ xs) n = countBy (entry x) n (countFor xs n)
+
+-- "the lift's new measure becomes the count divided by 100, rounded up"; "Lifts without a line keep theirs."
+abbrev pub measuredBy : Lift → Option ℕ → Lift
+measuredBy l (some c) = remeasured l (hundreds c)
+measuredBy l none = l
+
+abbrev pub measured : List (List ℕ) → Lift → Lift
+measured xs l = measuredBy l (countFor xs (l .number))
 
 -- the words of the lifts with the counts of a text
 abbrev pub renewed : List ℕ → List ℕ → List ℕ

@@ -1,8 +1,9 @@
 -- The text as the code reads it: numbers clamped, lines by positions, new measures in one slot for each lift.
 use Prim.Native.Nat.{ℕ, suc, _+_, _-_, _^_, _≤_, _<_}
 use mathlib.Core.Path.{_≡_}
-use mathlib.Core.Bool.{Bool, true, false, cond, _&&_}
+use mathlib.Core.Bool.{false, cond, _&&_}
 use mathlib.Core.List.{List, [], _∷_, map}
+use mathlib.Core.Option.{Option, none, some}
 use lib.Dec.{eqb, leb, ltb}
 use lib.ListN.{length, getD, take, drop}
 use Rattle.sheet.specs.Sheet.{mostLifts, newKind, placeOf, Lift, lifts, placeWord, sheetOf}
@@ -11,7 +12,7 @@ use Rattle.sheet.specs.declared.Found.{Found}
 use Rattle.sheet.specs.declared.Found.the-variants.{At, Nothing}
 use Rattle.counts.specs.Text.{LF, endingCR, isDigit, value, empty, isNumber, Entry, counted, malformed, entry}
 use Rattle.laws.specs.Among.{among}
-use Rattle.counts.specs.Counts.{linesFrom, hundreds, remeasured}
+use Rattle.counts.specs.Counts.{linesFrom, hundreds, remeasured, countFor}
 use Rattle.counts.specs.declared.Digits.{Digits}
 use Rattle.counts.specs.declared.Number.{Number}
 use Rattle.counts.specs.declared.Number.the-variants.{Is, Not}
@@ -40,13 +41,9 @@ leading bs = take (span bs) bs
 abbrev pub digitsAt : List ℕ → ℕ → Digits
 digitsAt text i = record { value = clamp (value (leading (drop i text))); next = i + span (drop i text) }
 
-abbrev pub pickNumber : Bool → Number → Number → Number
-pickNumber true a b = a
-pickNumber false a b = b
-
 -- the number whose digits begin at a position
 abbrev pub numberAt : ℕ → List ℕ → ℕ → Number
-numberAt limit text i = pickNumber (isNumber limit (leading (drop i text))) (Is (value (leading (drop i text))) (i + span (drop i text))) Not
+numberAt limit text i = cond (isNumber limit (leading (drop i text))) (Is (value (leading (drop i text))) (i + span (drop i text))) Not
 
 -- ---- lines
 
@@ -59,13 +56,9 @@ unfoldable pub extent : List ℕ → ℕ
 extent [] = 0
 extent (b ∷ bs) = cond (eqb b LF) 1 (suc (extent bs))
 
-abbrev pub pickFound : Bool → Found → Found → Found
-pickFound true a b = a
-pickFound false a b = b
-
 -- what is behind the ending at a position, if there is one
 abbrev pub endingAt : List ℕ → ℕ → Found
-endingAt text i = pickFound (empty (line (drop i text))) (At (i + extent (drop i text))) Nothing
+endingAt text i = cond (empty (line (drop i text))) (At (i + extent (drop i text))) Nothing
 
 abbrev pub lineOf : Entry → ℕ → Line
 lineOf (counted n c) next = EntryLine n c next
@@ -98,13 +91,12 @@ Located ns n (At k) = (k < length ns) × (getD ns k 0 ≡ n)
 Located ns n Nothing = among n ns ≡ false
 
 -- a lift's slot: 0 without a line, else one more than the new measure
-abbrev pub slotBy : Entry → ℕ → ℕ → ℕ
-slotBy (counted m c) n other = cond (eqb m n) (hundreds c + 1) other
-slotBy malformed n other = other
+abbrev pub slotOf : Option ℕ → ℕ
+slotOf (some c) = hundreds c + 1
+slotOf none = 0
 
-unfoldable pub slot : List (List ℕ) → ℕ → ℕ
-slot [] n = 0
-slot (x ∷ xs) n = slotBy (entry x) n (slot xs n)
+abbrev pub slot : List (List ℕ) → ℕ → ℕ
+slot xs n = slotOf (countFor xs n)
 
 -- the slots of the lifts with these numbers
 abbrev pub slots : List ℕ → List (List ℕ) → List ℕ
