@@ -22,11 +22,24 @@ use Rattle.counts.proofs.Numbers.{digit-low}
 
 -- ---- the first line of a text
 
+line-none : line [] ≡ []
+unfolding line lines
+line-none = refl
+
+line-next : (b : ℕ) (bs : List ℕ) → line (b ∷ bs) ≡ cond (eqb b LF) [] (cond (endingCR b bs) (line bs) (b ∷ line bs))
+unfolding line lines
+line-next b bs = go (eqb b LF) (endingCR b bs) (lines bs)
+  where
+    go : (t u : Bool) (ls : List (List ℕ)) → getD (cond t ([] ∷ ls) (cond u ls (ahead b ls))) 0 [] ≡ cond t [] (cond u (getD ls 0 []) (b ∷ getD ls 0 []))
+    go true u ls = refl
+    go false true ls = refl
+    go false false [] = refl
+    go false false (l ∷ ls) = refl
+
 -- bytes that begin with LF are an empty line
 line-LF : (bs : List ℕ) → eqb (getD bs 0 0) LF ≡ true → line bs ≡ []
-unfolding line
-line-LF [] h = refl
-line-LF (b ∷ bs) h = rw h
+line-LF [] h = line-none
+line-LF (b ∷ bs) h = rw (line-next b bs, h)
 
 endingCR-LF : (b : ℕ) (bs : List ℕ) → endingCR b bs ≡ true → eqb (getD bs 0 0) LF ≡ true
 endingCR-LF b bs h = go (eqb b CR) h
@@ -37,14 +50,14 @@ endingCR-LF b bs h = go (eqb b CR) h
 
 -- a text with a byte is its first line and the lines behind that
 pub first-line : (b : ℕ) (bs : List ℕ) → lines (b ∷ bs) ≡ line (b ∷ bs) ∷ lines (drop (extent (b ∷ bs)) (b ∷ bs))
-unfolding lines line extent
-first-line b [] = go (eqb b LF) (endingCR b []) refl
+unfolding lines extent
+first-line b [] = rw (line-next b [], line-none) (go (eqb b LF) (endingCR b []) refl)
   where
     go : (t u : Bool) → endingCR b [] ≡ u → cond t ([] ∷ []) (cond u [] ((b ∷ []) ∷ [])) ≡ cond t [] (cond u [] (b ∷ [])) ∷ lines (drop (cond t 1 1) (b ∷ []))
     go true u e = refl
     go false true e = absurd (false≢true (endingCR-LF b [] e))
     go false false e = refl
-first-line b (c ∷ cs) = go (eqb b LF) (endingCR b (c ∷ cs)) (first-line c cs)
+first-line b (c ∷ cs) = rw (line-next b (c ∷ cs)) (go (eqb b LF) (endingCR b (c ∷ cs)) (first-line c cs))
   where
     go : (t u : Bool) → lines (c ∷ cs) ≡ line (c ∷ cs) ∷ lines (drop (extent (c ∷ cs)) (c ∷ cs))
         → cond t ([] ∷ lines (c ∷ cs)) (cond u (lines (c ∷ cs)) (ahead b (lines (c ∷ cs))))
@@ -70,9 +83,8 @@ span-foreign (b ∷ bs) = go (isDigit b) refl (span-foreign bs)
 
 -- the first byte of a line is that of the text, or the line is empty
 line-head : (bs : List ℕ) → (line bs ≡ []) ⊎ (getD (line bs) 0 0 ≡ getD bs 0 0)
-unfolding line
-line-head [] = inl refl
-line-head (b ∷ bs) = go (eqb b LF) (endingCR b bs) refl
+line-head [] = inl line-none
+line-head (b ∷ bs) = rw (line-next b bs) (go (eqb b LF) (endingCR b bs) refl)
   where
     go : (t u : Bool) → endingCR b bs ≡ u → (cond t [] (cond u (line bs) (b ∷ line bs)) ≡ []) ⊎ (getD (cond t [] (cond u (line bs) (b ∷ line bs))) 0 0 ≡ b)
     go true u e = inl refl
@@ -80,9 +92,8 @@ line-head (b ∷ bs) = go (eqb b LF) (endingCR b bs) refl
     go false false e = inr refl
 
 line-foreign : (bs : List ℕ) → foreign bs ≡ true → foreign (line bs) ≡ true
-unfolding line
-line-foreign [] h = refl
-line-foreign (b ∷ bs) h = go (eqb b LF) (endingCR b bs) refl
+line-foreign [] h = rw line-none
+line-foreign (b ∷ bs) h = rw (line-next b bs) (go (eqb b LF) (endingCR b bs) refl)
   where
     go : (t u : Bool) → endingCR b bs ≡ u → foreign (cond t [] (cond u (line bs) (b ∷ line bs))) ≡ true
     go true u e = refl
@@ -121,13 +132,13 @@ module _ (b : ℕ) (d : isDigit b ≡ true) where
   not-comma = ne-eqb b comma (λ e. omega (arith, digit-low b d))
 
 line-leading : (bs : List ℕ) → line bs ≡ leading bs ++ line (drop (span bs) bs)
-unfolding line span
+unfolding span
 line-leading [] = refl
 line-leading (b ∷ bs) = go (isDigit b) refl (line-leading bs)
   where
     go : (t : Bool) → isDigit b ≡ t → line bs ≡ leading bs ++ line (drop (span bs) bs)
         → line (b ∷ bs) ≡ take (cond t (suc (span bs)) 0) (b ∷ bs) ++ line (drop (cond t (suc (span bs)) 0) (b ∷ bs))
-    go true e h = rw (not-LF b e, not-CR b e) (ap (λ l. b ∷ l) h)
+    go true e h = rw (line-next b bs, not-LF b e, not-CR b e) (ap (λ l. b ∷ l) h)
     go false e h = refl
 
 extent-leading : (bs : List ℕ) → extent bs ≡ span bs + extent (drop (span bs) bs)
@@ -282,12 +293,14 @@ module _ (text : List ℕ) (start : ℕ) {x : Number} (h : x ≡ numberAt larges
       rest-comma = rw (rest-is text start, ← number-is largestLift text start h e .2, drop-cons text at′ 0 room, q, add-one at′)
 
       behind-comma : behind (line (drop start text)) ≡ line (drop (at′ + 1) text)
-      unfolding behind line
-      behind-comma = rw (count-field (drop start text), rest-comma)
+      unfolding behind
+      behind-comma = rw (count-field (drop start text), rest-comma, line-next comma (drop (at′ + 1) text))
 
       before-comma : before (line (drop start text)) ≡ leading (drop start text)
-      unfolding before line
-      before-comma = rw (line-leading (drop start text), before-leading (drop start text) (line (drop (span (drop start text)) (drop start text))), rest-comma) (append-nil _)
+      unfolding before
+      before-comma =
+          rw (line-leading (drop start text), before-leading (drop start text) (line (drop (span (drop start text)) (drop start text))), rest-comma, line-next comma (drop (at′ + 1) text))
+          (append-nil _)
 
       module _ {y : Number} (g : y ≡ numberAt largestCount text (at′ + 1)) where
         pub line-no-count : y ≡ Not → Malformed ≡ lineAt text start
@@ -326,22 +339,21 @@ module _ (text : List ℕ) (start : ℕ) {x : Number} (h : x ≡ numberAt larges
 -- ---- the ways out of an ending
 
 ends-LF : (b : ℕ) (bs : List ℕ) → b ≡ LF → (empty (line (b ∷ bs)) ≡ true) × (extent (b ∷ bs) ≡ 1)
-unfolding line extent
-ends-LF b bs h = (rw (eq-eqb b LF h), rw (eq-eqb b LF h))
+unfolding extent
+ends-LF b bs h = (rw (line-next b bs, eq-eqb b LF h), rw (eq-eqb b LF h))
 
 ends-CRLF : (b : ℕ) (bs : List ℕ) → b ≡ CR → getD bs 0 0 ≡ LF → (empty (line (b ∷ bs)) ≡ true) × (extent (b ∷ bs) ≡ 2)
-unfolding line extent
+unfolding extent
 ends-CRLF b [] h k = let z : _≡_ {A = ℕ} 0 LF = k in absurd (omega arith)
-ends-CRLF b (c ∷ cs) h k = (rw (h, k), rw (h, k))
+ends-CRLF b (c ∷ cs) h k = (rw (line-next b (c ∷ cs), line-next c cs, h, k), rw (h, k))
 
 no-end : (b : ℕ) (bs : List ℕ) → (b ≡ LF → ⊥) → endingCR b bs ≡ false → empty (line (b ∷ bs)) ≡ false
-unfolding line
-no-end b bs h k = rw (ne-eqb b LF h, k)
+no-end b bs h k = rw (line-next b bs, ne-eqb b LF h, k)
 
 module _ (text : List ℕ) (i : ℕ) where
   pub ending-past : length text ≤ i → At i ≡ endingAt text i
-  unfolding line extent
-  ending-past h = rw (drop-of-length-le text h) (ap At (omega arith))
+  unfolding extent
+  ending-past h = rw (drop-of-length-le text h, line-none) (ap At (omega arith))
 
   module _ (h : i < length text) where
     ended : {n : ℕ} → (empty (line (getD text i 0 ∷ drop (suc i) text)) ≡ true) × (extent (getD text i 0 ∷ drop (suc i) text) ≡ n) → At (i + n) ≡ endingAt text i

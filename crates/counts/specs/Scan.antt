@@ -10,7 +10,7 @@ use Rattle.sheet.specs.Sheet.{mostLifts, newKind, placeOf, Lift, lifts, placeWo
 use Rattle.sheet.specs.Reading.{numbered, faulty, sound}
 use Rattle.sheet.specs.declared.Found.{Found}
 use Rattle.sheet.specs.declared.Found.the-variants.{At, Nothing}
-use Rattle.counts.specs.Text.{LF, endingCR, isDigit, value, empty, isNumber, Entry, counted, malformed, entry}
+use Rattle.counts.specs.Text.{LF, lines, isDigit, value, empty, isNumber, Entry, counted, malformed, entry}
 use Rattle.laws.specs.Among.{among}
 use Rattle.counts.specs.Counts.{linesFrom, hundreds, remeasured, countFor}
 use Rattle.counts.specs.declared.Digits.{Digits}
@@ -49,8 +49,7 @@ numberAt limit text i = cond (isNumber limit (leading (drop i text))) (Is (value
 
 -- the first line of a text without its ending, and how long it is with it
 unfoldable pub line : List ℕ → List ℕ
-line [] = []
-line (b ∷ bs) = cond (eqb b LF) [] (cond (endingCR b bs) (line bs) (b ∷ line bs))
+line bs = getD (lines bs) 0 []
 
 unfoldable pub extent : List ℕ → ℕ
 extent [] = 0
