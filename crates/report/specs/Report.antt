@@ -94,9 +94,9 @@ refusedLine x = refusedLabel ++ (field (x .number) space ++ field (x .place) LF)
 
 -- ---- the whole text
 
--- what is printed of a reply and the choices
-abbrev pub printed : Reply → List Choice → List ℕ
-printed r cs = cond (eqb (r .number) 0) (lines cs ++ wordsLine (r .third)) (refusedLine (numbered (r .number) (r .second)))
+-- what is printed of a reply, with the lines of its choices
+abbrev pub printed : Reply → List ℕ → List ℕ
+printed r choices = cond (eqb (r .number) 0) (choices ++ wordsLine (r .third)) (refusedLine (numbered (r .number) (r .second)))
 
 -- the choices of a panel
 abbrev pub choicesOf : Panel → List Choice
@@ -105,7 +105,7 @@ choicesOf (short r) = []
 
 -- the text of a sheet and random words: "starting at 0", with an output that every sheet's choices fit
 unfoldable pub textOf : List ℕ → List ℕ → List ℕ
-textOf sheet ws = printed (reply sheet ws 0 (2 * mostRounds)) (choicesOf (panel (lifts sheet) ws 0))
+textOf sheet ws = printed (reply sheet ws 0 (2 * mostRounds)) (lines (choicesOf (panel (lifts sheet) ws 0)))
 
 -- the whole text, from the sheet's bytes, its true length in bytes, and the bytes of the words: "A sheet of bytes not divisible by 4,
 -- however long, is refusal 1 with its byte length as place."
@@ -128,8 +128,7 @@ pairLines ws = flatMap pairLine (pieces 2 ws)
 
 -- what is printed of a reply and the output words
 abbrev pub printedWords : Reply → List ℕ → List ℕ
-printedWords r out =
-    cond (eqb (r .number) 0) (pairLines (take (2 * r .second) out) ++ wordsLine (r .third)) (refusedLine (numbered (r .number) (r .second)))
+printedWords r out = printed r (pairLines (take (2 * r .second) out))
 
 -- room for every text
 abbrev pub textRoom : ℕ
