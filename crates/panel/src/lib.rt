@@ -234,9 +234,7 @@ fn select_rounds(sheet: &[u32], t: Tallies, words: &[u64], start: usize, rows: &
         let end = Lift::ROW * e as usize;
         let sums = sums_in(t.new_sums[r], &x.sent, r);
         match choose_lift(&rows[begin..end], donors, held, sums, words, next) {
-            Step::Passed => {
-                r += 1;
-            }
+            Step::Passed => r += 1,
             Step::Chosen(number, outcome, behind) => {
                 numbers[r] = number;
                 outcomes[r] = outcome;
