@@ -14,7 +14,7 @@ use Rattle.sheet.specs.declared.Found.{Found}
 use Rattle.sheet.specs.declared.Found.the-variants.{At, Nothing}
 use Rattle.counts.specs.Text.{LF, lines, before, behind, allDigits, value, empty, isNumber, largestLift, largestCount, Entry, counted, malformed, entry}
 use Rattle.laws.specs.Among.{among}
-use Rattle.counts.specs.Counts.{atLine, linesFrom, numbersOf, hundreds, remeasured, countBy, countFor, measuredBy, measured}
+use Rattle.counts.specs.Counts.{atLine, linesFrom, numbersOf, hundreds, countBy, countFor, measuredBy, measured}
 use Rattle.counts.specs.Scan.{line, extent, lineOf, lineAt, RisingAbove, Numbers, Located, slotOf, slot, slots, Tells, liftWith, liftsWith}
 use Rattle.counts.specs.declared.Line.{Line}
 use Rattle.counts.specs.declared.Line.the-variants.{Entry as EntryLine, Malformed}

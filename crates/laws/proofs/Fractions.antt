@@ -1,12 +1,13 @@
 -- Laws of fractions. A sum is compared over one common denominator, `q ≈ n // S`, so that what is left is an equation of numerators.
 use Prim.Native.Nat.{ℕ, zero, suc, _+_, _*_, _<_}
 use mathlib.Core.Path.{_≡_, refl, sym, ap, ap₂}
+use mathlib.Core.List.{List, [], _∷_, _++_, map, List·Memᴰ, List·Memᴰ·head, List·Memᴰ·tail}
 use native.Mathlib.Nat.{mul-pos, mul-zero, zero-lt-suc, eq-of-mul-eq-mul-right, mul-le-mul-right, le-of-mul-le-mul-right}
 use native.Mathlib.Omega.{arith}
 use lib.Dec.{eqb, eqb·suc-zero, eqb·zero-suc, eqb·suc-suc}
 use Rattle.laws.specs.Sum.{over, Σ, indicator}
 use Rattle.laws.proofs.Sums.{over-related, over-ext, over-cut, over-add, over-swap, Σ-const}
-use Rattle.laws.specs.Fraction.{Fraction, _//_, _⊕_, _⊗_, _≈_, _≲_, sum}
+use Rattle.laws.specs.Fraction.{Fraction, _//_, _⊕_, _⊗_, _≈_, _≲_, sum, sumOver}
 
 pub pos-left : (a b : ℕ) → 0 < a * b → 0 < a
 pos-left zero b h = omega arith
@@ -121,6 +122,33 @@ pub ⊗-part : {q : Fraction} {x : ℕ} (o N S : ℕ) → 0 < N → q ≈ x // (
   left = mul-pos p (h .left);
   right = mul-pos p (pos-left S o (omega (arith, h .right)));
 }
+
+-- ---- sums over a list
+
+pub sumOver-++ : {A : Type 0} (xs ys : List A) (f : A → Fraction) → sumOver (xs ++ ys) f ≡ sumOver xs f ⊕ sumOver ys f
+unfolding sumOver
+sumOver-++ [] ys f = sym (⊕-zero (sumOver ys f))
+sumOver-++ (x ∷ xs) ys f = rw (sumOver-++ xs ys f) (sym (⊕-assoc (f x) (sumOver xs f) (sumOver ys f)))
+
+pub sumOver-map : {A B : Type 0} (h : A → B) (xs : List A) (f : B → Fraction) → sumOver (map h xs) f ≡ sumOver xs (λ x. f (h x))
+unfolding sumOver
+sumOver-map h [] f = refl
+sumOver-map h (x ∷ xs) f = ap (λ s. f (h x) ⊕ s) (sumOver-map h xs f)
+
+pub sumOver-ext : {A : Type 0} (xs : List A) {f g : A → Fraction} → ((x : A) → List·Memᴰ x xs → f x ≡ g x) → sumOver xs f ≡ sumOver xs g
+unfolding sumOver
+sumOver-ext [] h = refl
+sumOver-ext (x ∷ xs) h = ap₂ _⊕_ (h x (List·Memᴰ·head refl)) (sumOver-ext xs (λ y d. h y (List·Memᴰ·tail d)))
+
+-- a part of each is that part of the sum
+pub sumOver-part : {A : Type 0} (q : Fraction) → 0 < q .den → (f g : A → Fraction) → ((x : A) → g x ≡ q ⊗ f x) → (xs : List A) → 0 < sumOver xs f .den
+    → sumOver xs g ≈ q ⊗ sumOver xs f
+unfolding sumOver
+sumOver-part q p f g e [] d = record { cross = omega arith; left = omega arith; right = omega arith }
+sumOver-part q p f g e (x ∷ xs) d =
+    let a = pos-left (f x .den) (sumOver xs f .den) d in
+    let b = pos-right (f x .den) (sumOver xs f .den) d in
+    rw (e x) (≈-trans (⊕-≈ (≈-refl (mul-pos p a)) (sumOver-part q p f g e xs b)) (⊗-distrib q (f x) (sumOver xs f) p a b))
 
 -- ---- sums over a range
 

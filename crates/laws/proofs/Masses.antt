@@ -1,6 +1,6 @@
 -- Laws of the mass of a plan. Each goes by induction over the plan: a draw's subplans share its mass evenly.
 use Prim.Native.Nat.{ℕ, suc, _+_, _*_, _<_}
-use mathlib.Core.Path.{_≡_, refl, sym, ap, ap₂, _∙_, fun-ext}
+use mathlib.Core.Path.{_≡_, refl, ap, ap₂, _∙_, fun-ext}
 use mathlib.Core.Bool.{Bool, true, false}
 use mathlib.Core.List.{List, [], _∷_, _++_, map}
 use native.Mathlib.Nat.{mul-pos, mul-one, add-sub-cancel-left}
@@ -9,37 +9,26 @@ use lib.ListN.{length, getD}
 use lib.Dec.{eqb}
 use Rattle.laws.specs.Sum.{over, Σ, total, indicator}
 use Rattle.laws.specs.Interval.{pick}
-use Rattle.laws.specs.Fraction.{Fraction, _//_, _⊕_, _⊗_, _≈_, _≲_, sum}
+use Rattle.laws.specs.Fraction.{Fraction, _//_, _⊕_, _⊗_, _≈_, _≲_, sum, sumOver}
 use Rattle.laws.specs.Plan.{Plan, done, draw, after, Every, Drawable, Path, drew, paths, weight, mass, mean, Weighed}
 use Rattle.laws.proofs.Sums.{over-related, over-ext, Σ-const}
 use Rattle.laws.proofs.Intervals.{pick-here, pick-beyond, intervals}
-use Rattle.laws.proofs.Fractions.{pos-left, pos-right, ≈-refl, ≈-sym, ≈-trans, ≈-≲, ⊕-assoc, ⊕-zero, ⊕-≈, ⊗-≈, ⊗-distrib, sum-≈, sum-cut, sum-const, sum-part, sum-same, sum-≲, sum-mix, sum-one}
+use Rattle.laws.proofs.Fractions.{≈-refl, ≈-sym, ≈-trans, ≈-≲, ⊕-≈, ⊗-≈, sumOver-++, sumOver-map, sumOver-part, sum-≈, sum-cut, sum-const, sum-part, sum-same, sum-≲, sum-mix, sum-one}
 
 -- ---- the list of paths and the recursion
 
-weight-++ : {A : Type 0} (t : A → Bool) (xs ys : List (Path A)) → weight t (xs ++ ys) ≡ weight t xs ⊕ weight t ys
-unfolding weight
-weight-++ t [] ys = sym (⊕-zero (weight t ys))
-weight-++ t (x ∷ xs) ys =
-    ap (λ s. indicator (t (x .result)) // x .bounds ⊕ s) (weight-++ t xs ys)
-    ∙ sym (⊕-assoc (indicator (t (x .result)) // x .bounds) (weight t xs) (weight t ys))
-
 weight-over : {A : Type 0} (t : A → Bool) (n : ℕ) (f : ℕ → List (Path A)) → weight t (over _++_ [] n f) ≡ sum n (λ v. weight t (f v))
-unfolding weight
+unfolding weight sumOver
 weight-over t n f =
-    over-related (λ xs q. weight t xs ≡ q) _++_ [] _⊕_ (0 // 1) refl (λ a x b y p q. weight-++ t a x ∙ ap₂ _⊕_ p q) n (λ i l. refl)
+    over-related (λ xs q. weight t xs ≡ q) _++_ [] _⊕_ (0 // 1) refl (λ a x b y p q. sumOver-++ a x _ ∙ ap₂ _⊕_ p q) n (λ i l. refl)
 
 weight-drew : {A : Type 0} (t : A → Bool) (b v : ℕ) (ps : List (Path A)) → 0 < b → 0 < weight t ps .den
     → weight t (map (drew b v) ps) ≈ 1 // b ⊗ weight t ps
 unfolding weight
-weight-drew t b v [] l h = record { cross = omega arith; left = omega arith; right = omega arith }
-weight-drew t b v (p ∷ ps) l h =
-    let o = pos-left (p .bounds) _ h in let w = pos-right (p .bounds) _ h in
-    ≈-trans (⊕-≈ {s = 1 // b ⊗ indicator (t (p .result)) // p .bounds} (record { cross = omega arith; left = mul-pos l o; right = mul-pos l o }) (weight-drew t b v ps l w))
-    (⊗-distrib (1 // b) (indicator (t (p .result)) // p .bounds) (weight t ps) l o w)
+weight-drew t b v ps l h = rw (sumOver-map (drew b v) ps _) (sumOver-part (1 // b) l _ _ (λ p. ap (λ n. n // (b * p .bounds)) (omega arith)) ps h)
 
 agree : {A : Type 0} (t : A → Bool) (p : Plan A) → Drawable p → weight t (paths p) ≈ mass t p
-unfolding weight paths mass Every
+unfolding weight sumOver paths mass mean Every
 agree t (done a) d = record { cross = omega arith; left = omega arith; right = omega arith }
 agree t (draw b k) d =
     let r : (v : ℕ) → v < b → weight t (paths (k v)) ≈ mass t (k v) = λ v l. agree t (k v) (d .1 v l) in
@@ -56,7 +45,7 @@ mass-even b p q h =
     record { cross = omega (arith, ap (λ t. t * b) (k .cross)); left = mul-pos p (k .left); right = mul-pos p q }
 
 pub mass-whole : {A : Type 0} (p : Plan A) → Drawable p → mass (λ _. true) p ≈ 1 // 1
-unfolding mass Every
+unfolding mass mean Every
 mass-whole (done a) d = ≈-refl (omega arith)
 mass-whole (draw b k) d =
     ≈-trans (rw (Σ-const b 1) at (mass-even b {a = λ v. 1} {S = 1} (d .0) (omega arith) (λ v l. mass-whole (k v) (d .1 v l))))
@@ -70,7 +59,7 @@ indicator-le t a = go (t a)
     go false = record { cross = omega arith; left = omega arith; right = omega arith }
 
 pub mass-part : {A : Type 0} (t : A → Bool) (p : Plan A) → Drawable p → mass t p ≲ 1 // 1
-unfolding mass Every
+unfolding mass mean Every
 mass-part t (done a) d = indicator-le t a
 mass-part t (draw b k) d =
     let r = rw (Σ-const b 1) at (sum-≲ b {a = λ v. 1} {S = 1} (omega arith) (λ v l. mass-part t (k v) (d .1 v l))) in
@@ -133,7 +122,7 @@ sum-pick (w ∷ ws) f h =
 
 pub mass-pick : {A : Type 0} (t : A → Bool) (ws : List ℕ) (k : ℕ → Plan A) → 0 < total ws → ((i : ℕ) → i < length ws → 0 < mass t (k i) .den)
     → mass t (draw (total ws) (λ q. k (pick ws q))) ≈ sum (length ws) (λ i. getD ws i 0 // total ws ⊗ mass t (k i))
-unfolding mass
+unfolding mass mean
 mass-pick t ws k p h =
     ≈-trans (⊗-≈ (≈-refl {q = 1 // total ws} p) (sum-pick ws (λ i. mass t (k i)) h))
     (≈-trans (≈-sym (sum-part (length ws) (1 // total ws) (λ i. getD ws i 0 // 1 ⊗ mass t (k i)) p (λ i l. omega (arith, h i l))))
@@ -142,7 +131,7 @@ mass-pick t ws k p h =
 -- where only index j passes the test, its interval's part
 pub mass-hits : {A : Type 0} (t : A → Bool) (ws : List ℕ) (k : ℕ → A) (j : ℕ) → j < length ws → 0 < total ws → ((i : ℕ) → t (k i) ≡ eqb i j)
     → mass t (draw (total ws) (λ q. done (k (pick ws q)))) ≈ getD ws j 0 // total ws
-unfolding mass
+unfolding mass mean
 mass-hits t ws k j l p h =
     rw (mul-one (total ws), over-ext _+_ 0 (total ws) (λ q _. ap indicator (h (pick ws q))), intervals ws .hits j l) at
     (mass-even (total ws) {a = λ q. indicator (t (k (pick ws q)))} {S = 1} p (omega arith) (λ q _. ≈-refl (omega arith)))

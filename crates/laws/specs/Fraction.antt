@@ -1,6 +1,7 @@
 -- Fractions of natural numbers, compared multiplied out.
 use Prim.Native.Nat.{ℕ, _+_, _*_, _≤_, _<_}
 use mathlib.Core.Path.{_≡_}
+use mathlib.Core.List.{List, [], _∷_}
 use Rattle.laws.specs.Sum.{over}
 
 pub record Fraction : Type 0 where
@@ -23,6 +24,11 @@ q ⊗ r = (q .num * r .num) // (q .den * r .den)
 -- f 0 ⊕ f 1 ⊕ .. ⊕ f (n - 1)
 abbrev pub sum : ℕ → (ℕ → Fraction) → Fraction
 sum n f = over _⊕_ (0 // 1) n f
+
+-- f of each element of a list, added up
+unfoldable pub sumOver : {A : Type 0} → List A → (A → Fraction) → Fraction
+sumOver [] f = 0 // 1
+sumOver (x ∷ xs) f = f x ⊕ sumOver xs f
 
 -- equal, multiplied out; that both denominators are above 0 is part of it
 pub record _≈_ (q r : Fraction) : Type 0 where

@@ -3,7 +3,7 @@ use Prim.Native.Nat.{ℕ, zero, suc, _*_, _<_}
 use mathlib.Core.Bool.{Bool, true}
 use mathlib.Core.List.{List, [], _∷_, _++_, map}
 use Rattle.laws.specs.Sum.{over, indicator}
-use Rattle.laws.specs.Fraction.{Fraction, _//_, _⊕_, _⊗_, _≈_, _≲_, sum}
+use Rattle.laws.specs.Fraction.{Fraction, _//_, _⊗_, _≈_, _≲_, sum, sumOver}
 
 -- a result, or a draw of one of the numbers below a bound, each as likely as another, and a plan for each of them
 pub data Plan (A : Type 0) : Type 0 where
@@ -47,18 +47,16 @@ paths (draw b k) = over _++_ [] b (λ v. map (drew b v) (paths (k v)))
 
 -- what the paths weigh together whose result passes the test: each weighs 1 over the product of the bounds that it met
 unfoldable pub weight : {A : Type 0} → (A → Bool) → List (Path A) → Fraction
-weight t [] = 0 // 1
-weight t (p ∷ ps) = indicator (t (p .result)) // p .bounds ⊕ weight t ps
+weight t ps = sumOver ps (λ p. indicator (t (p .result)) // p .bounds)
 
--- the same by recursion: the values of a draw share its mass evenly
-unfoldable pub mass : {A : Type 0} → (A → Bool) → Plan A → Fraction
-mass t (done a) = indicator (t a) // 1
-mass t (draw b k) = 1 // b ⊗ sum b (λ v. mass t (k v))
-
--- the mean of f over the results of a plan
+-- the mean of f over the results of a plan, by recursion: the values of a draw share its mass evenly
 unfoldable pub mean : {A : Type 0} → (A → Fraction) → Plan A → Fraction
 mean f (done a) = f a
 mean f (draw b k) = 1 // b ⊗ sum b (λ v. mean f (k v))
+
+-- the mass of the results that pass the test: the mean of 1 where a result does and 0 where it does not
+unfoldable pub mass : {A : Type 0} → (A → Bool) → Plan A → Fraction
+mass t p = mean (λ a. indicator (t a) // 1) p
 
 -- what is proved of every plan whose draws all have a value, and of every test (proofs/Masses.antt)
 pub record Weighed {A : Type 0} (t : A → Bool) (p : Plan A) : Type 0 where

@@ -11,7 +11,7 @@ use borrow.Author.Tests.{leb-true, leb-false, ltb-true, eq-eqb}
 use Rattle.laws.specs.Sum.{Σ, total, indicator}
 use Rattle.laws.specs.Fraction.{_//_, _⊗_, _≈_, sum}
 use Rattle.laws.specs.Interval.{pick}
-use Rattle.laws.specs.Plan.{Plan, done, draw, Every, Drawable, mass}
+use Rattle.laws.specs.Plan.{Plan, done, draw, Every, Drawable, mass, mean}
 use Rattle.laws.proofs.Tests.{eqb-comm}
 use Rattle.laws.proofs.Sums.{over-ext, Σ-add, Σ-mul, Σ-step, Σ-one, Σ-map, map-le}
 use Rattle.laws.proofs.Intervals.{pick-some}
@@ -36,7 +36,7 @@ mass-cond t false p₁ p₂ h k = k
 -- a draw below o: for n of its values one plan, for the others another
 pub mass-split : {A : Type 0} (t : A → Bool) (p₁ p₂ : Plan A) {x y S : ℕ} (o n : ℕ) → 0 < S → 0 < o → n ≤ o → mass t p₁ ≈ x // S → mass t p₂ ≈ y // S
     → mass t (draw o (λ r. cond (ltb r n) p₁ p₂)) ≈ (n * x + (o - n) * y) // (o * S)
-unfolding mass
+unfolding mass mean
 mass-split t p₁ p₂ {x} {y} o n p q l h k =
     let e : Σ o (λ r. cond (ltb r n) x y) ≡ n * x + (o - n) * y = ap (λ m. Σ m (λ r. cond (ltb r n) x y)) (omega arith) ∙ Σ-step n (o - n) x y in
     rw e at (mass-even o q p (λ r _. mass-cond t (ltb r n) p₁ p₂ h k))
@@ -62,7 +62,7 @@ passes ws H j i = smaller (weightAt ws i) * (indicator (eqb i j) * H) + loss (we
 
 pub unit : (ws : List Weight) (i j N H : ℕ) → j < length ws → 0 < N → 0 < H → (weightAt ws i .new < weightAt ws i .old → G ws ≡ H)
     → weightAt ws i .old // N ⊗ mass (chooses j) (keyfitz ws i) ≈ passes ws H j i // (N * H)
-unfolding keyfitz mass drawPlace G
+unfolding keyfitz mass mean drawPlace G
 unit ws i j N H u p q h =
     mass-stayOr (chooses j) (done (selection i false)) _ (weightAt ws i) N H p q (record { cross = omega arith; left = omega arith; right = q })
     (λ l. let g : getD (map growth ws) j 0 ≡ growth (weightAt ws j) = List·getD-map growth ws j none in

@@ -10,7 +10,7 @@ use lib.ListN.{length}
 use lib.Dec.{ltb, eqb}
 use Rattle.laws.specs.Sum.{Σ, indicator}
 use Rattle.laws.specs.Fraction.{Fraction, _//_, _⊗_, _≈_}
-use Rattle.laws.specs.Plan.{done, draw, mass}
+use Rattle.laws.specs.Plan.{done, draw, mass, mean}
 use Rattle.laws.proofs.Sums.{over-ext, Σ-add, Σ-mul, Σ-step, Σ-one}
 use Rattle.laws.proofs.Fractions.{≈-refl, ≈-trans, ≈-num}
 use Rattle.laws.proofs.Masses.{mass-even}
@@ -35,7 +35,7 @@ indicator-cond t false i j = refl
 
 both : (t : ℕ → Bool) (o b i j : ℕ) → 0 < b → o ≤ b
     → mass (λ a. t a) (draw b (λ v. done (cond (ltb v o) i j))) ≈ (o * indicator (t i) + (b - o) * indicator (t j)) // b
-unfolding mass
+unfolding mass mean
 both t o b i j p l =
     let e : Σ b (λ v. indicator (t (cond (ltb v o) i j))) ≡ o * indicator (t i) + (b - o) * indicator (t j)
     = over-ext _+_ 0 b (λ v _. indicator-cond t (ltb v o) i j) ∙ ap (λ m. Σ m (λ v. cond (ltb v o) (indicator (t i)) (indicator (t j)))) (omega arith)
@@ -64,7 +64,7 @@ two-identity U₁ E₁ U₂ E₂ C₁ C₂ z T₁ T₂ e f = rw (e, f) (omega ar
 
 module _ (ls : List Lift) (t : Preliminary → Bool) (c : ℕ → ℕ) (z : ℕ) (hc : (a : ℕ) → a < length ls → indicator (t (unitAt a)) ≡ c a) (hz : indicator (t noUnit) ≡ z) where
   one-mass : (T : ℕ) → 0 < T → overHeld (One T) ls (λ h. mass t (preliminary (One T) ls h)) ≈ (passing 1 ls c + (T - U 1 ls) * z) // (T * 1)
-  unfolding overHeld preliminaryBy mass passing
+  unfolding overHeld preliminaryBy mass mean passing
   one-mass T p =
       initial-same 1 T ls p (λ x. mass t (preliminary (One T) ls (heldOf x elsewhere))) {x = c} {y = z} {R = 1} (omega arith) (λ i l. rw (hc i l) (≈-refl (omega arith))) (rw hz (≈-refl (omega arith)))
 
@@ -72,7 +72,7 @@ module _ (ls : List Lift) (t : Preliminary → Bool) (c : ℕ → ℕ) (z : ℕ)
     two-mass : overHeld (Two T₁ T₂) ls (λ h. mass t (preliminary (Two T₁ T₂) ls h))
         ≈ ((U 1 ls * T₂ + U 2 ls * (T₁ - U 1 ls)) * (T₂ * passing 1 ls c + T₁ * passing 2 ls c) + (T₁ - U 1 ls) * (T₂ - U 2 ls) * z * (U 1 ls * T₂ + U 2 ls * T₁))
         // (T₁ * (T₂ * (U 1 ls * T₂ + U 2 ls * T₁)))
-    unfolding overHeld preliminaryBy mass D firstOdds
+    unfolding overHeld preliminaryBy mass mean D firstOdds
     two-mass =
         let u₁ = U 1 ls in let u₂ = U 2 ls in let E₁ : ℕ = T₁ - u₁ in let E₂ : ℕ = T₂ - u₂ in
         let C₁ = passing 1 ls c in let C₂ = passing 2 ls c in

@@ -18,7 +18,7 @@ use Rattle.round.specs.Rows.{HasSums, Multipliable, scaled, scaleOf, who
 use Rattle.round.specs.declared.Donors.{Donors}
 use Rattle.round.specs.declared.Donors.the-variants.{None, One, Two}
 use Rattle.round.specs.declared.Held.{Held}
-use Rattle.round.specs.declared.Held.the-variants.{Neither, Single, Both}
+use Rattle.round.specs.declared.Held.the-variants.{Single, Both}
 use Rattle.round.specs.declared.Lift.{Lift}
 use Rattle.round.specs.declared.Scale.{Scale}
 use Rattle.round.specs.declared.Sums.{Sums}

@@ -6,6 +6,7 @@ use Rattle.laws.specs.Same.{allRight}
 use native.Mathlib.Omega.{arith}
 use Rattle.laws.specs.Sum.{over, Σ, total, totalBy}
 use Rattle.laws.specs.Interval.{pick}
+use Rattle.laws.specs.Fraction.{sumOver}
 use Rattle.laws.specs.Plan.{after, paths, weight}
 use Rattle.draw.specs.Draw.{drawFrom}
 use Rattle.draw.specs.Run.{run}
@@ -25,11 +26,11 @@ unfolding total totalBy S U D oldWeight newWeight weights G
 exact-figures = refl
 
 pub exact-shares : rightShares ≡ true
-unfolding over total totalBy pick after paths weight S U D oldWeight newWeight weights G drawPlace firstOdds preliminaryBy stayOr keyfitz select plan overInitial overHeld share
+unfolding over total totalBy pick after paths sumOver weight S U D oldWeight newWeight weights G drawPlace firstOdds preliminaryBy stayOr keyfitz select plan overInitial overHeld share
 exact-shares = refl
 
 pub exact-keeping : rightKeeping ≡ true
-unfolding over total totalBy pick after paths weight S U D oldWeight newWeight weights G drawPlace firstOdds preliminaryBy stayOr keyfitz select plan overInitial overHeld kept
+unfolding over total totalBy pick after paths sumOver weight S U D oldWeight newWeight weights G drawPlace firstOdds preliminaryBy stayOr keyfitz select plan overInitial overHeld kept
 exact-keeping = refl
 
 row : (i : ℕ) → i < 2 → Σ 2 (λ j. rule i j) ≡ weightAt (weights (One 3) exchanged) i .old * 1

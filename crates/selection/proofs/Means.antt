@@ -10,14 +10,14 @@ use lib.Dec.{eqb, ltb}
 use lib.ListN.{length, getD}
 use borrow.Author.Tests.{eqb-true, ltb-false}
 use Rattle.laws.specs.Sum.{over, valueBy}
-use Rattle.laws.specs.Fraction.{Fraction, _//_, _⊕_, _⊗_, _≈_, sum}
+use Rattle.laws.specs.Fraction.{Fraction, _//_, _⊕_, _⊗_, _≈_, sum, sumOver}
 use Rattle.laws.proofs.Sums.{Σ-map, totalBy-map}
-use Rattle.laws.proofs.Fractions.{pos-left, pos-right, ≈-refl, ≈-trans, ≈-num, ⊕-assoc, ⊕-zero, ⊕-≈, ⊗-assoc, ⊗-≈, ⊗-distrib, sum-≈, sum-same, sum-right}
+use Rattle.laws.proofs.Fractions.{pos-right, ≈-refl, ≈-trans, ≈-num, ⊕-≈, ⊗-assoc, ⊗-≈, sumOver-++, sumOver-map, sumOver-part, sum-≈, sum-same, sum-right}
 use Rattle.sheet.specs.Sheet.{Lift}
 use Rattle.sheet.specs.Rounds.{those, sumOf}
 use Rattle.sheet.specs.declared.Side.the-variants.{Old}
 use Rattle.selection.specs.Choice.{nobody}
-use Rattle.selection.specs.Initial.{eligible, each, selectionsFrom, product, sumOver}
+use Rattle.selection.specs.Initial.{eligible, each, selectionsFrom, product, odds}
 
 -- the lift at a place of a list
 abbrev pub nth : List Lift → ℕ → Lift
@@ -59,26 +59,6 @@ mean-const t ls p q d =
 
 -- ---- sums over selections, and the means that they are
 
-sumOver-++ : (ms ns : List (List Lift)) (f : List Lift → Fraction) → sumOver (ms ++ ns) f ≡ sumOver ms f ⊕ sumOver ns f
-unfolding sumOver
-sumOver-++ [] ns f = sym (⊕-zero (sumOver ns f))
-sumOver-++ (m ∷ ms) ns f = rw (sumOver-++ ms ns f) (sym (⊕-assoc (f m) (sumOver ms f) (sumOver ns f)))
-
-sumOver-map : (l : Lift) (ms : List (List Lift)) (f : List Lift → Fraction) → sumOver (map (λ m. l ∷ m) ms) f ≡ sumOver ms (λ m. f (l ∷ m))
-unfolding sumOver
-sumOver-map l [] f = refl
-sumOver-map l (m ∷ ms) f = ap (λ s. f (l ∷ m) ⊕ s) (sumOver-map l ms f)
-
--- a part of each is that part of the sum
-sumOver-part : (q : Fraction) → 0 < q .den → (f g : List Lift → Fraction) → ((m : List Lift) → g m ≡ q ⊗ f m) → (ms : List (List Lift)) → 0 < sumOver ms f .den
-    → sumOver ms g ≈ q ⊗ sumOver ms f
-unfolding sumOver
-sumOver-part q p f g e [] d = record { cross = omega arith; left = omega arith; right = omega arith }
-sumOver-part q p f g e (m ∷ ms) d =
-    let a = pos-left (f m .den) (sumOver ms f .den) d in
-    let b = pos-right (f m .den) (sumOver ms f .den) d in
-    rw (e m) (≈-trans (⊕-≈ (≈-refl (mul-pos p a)) (sumOver-part q p f g e ms b)) (⊗-distrib q (f m) (sumOver ms f) p a b))
-
 -- what weighs nothing adds nothing
 add-none : {s r : Fraction} (w T : ℕ) (q : Fraction) → w ≡ 0 → 0 < T → 0 < q .den → s ≈ r → s ≈ w // T ⊗ q ⊕ r
 add-none w T q e p d h =
@@ -93,7 +73,7 @@ module _ (t T : ℕ) (p : 0 < T) (ms : List (List Lift)) (f : List Lift → Frac
     where
       go : (x y : Bool) → ltb 0 (l .old .measure) ≡ y → sumOver (each (eligible t ls) ms) f ≈ mean t T ls h
           → sumOver (each (cond (x && y) (l ∷ eligible t ls) (eligible t ls)) ms) f ≈ cond x (l .old .measure) 0 // T ⊗ h l ⊕ mean t T ls h
-      go true true m r = rw (sumOver-++ (map (λ m. l ∷ m) ms) (each (eligible t ls) ms) f, sumOver-map l ms f) (⊕-≈ (e l) r)
+      go true true m r = rw (sumOver-++ (map (λ m. l ∷ m) ms) (each (eligible t ls) ms) f, sumOver-map (λ m. l ∷ m) ms f) (⊕-≈ (e l) r)
       go true false m r = add-none (l .old .measure) T (h l) (omega (arith, ltb-false)) p (pos-right T _ (e l .right)) r
       go false y m r = add-none 0 T (h l) refl p (pos-right T _ (e l .right)) r
 
@@ -102,25 +82,21 @@ unfoldable pub means : List ℕ → List Lift → (List Lift → Fraction) → F
 means [] ls f = f []
 means (t ∷ ts) ls f = mean t (sumOf Old t ls) ls (λ l. means ts ls (λ m. f (l ∷ m)))
 
--- the product of the named lifts' old measures over the product of some old sums
-abbrev weigh : List ℕ → List Lift → List Lift → Fraction
-weigh ts ls m = product (map (λ l. l .old .measure) m) // product (map (λ t. sumOf Old t ls) ts)
-
 -- the mean over one more old round
 mean-first : (t : ℕ) (ts : List ℕ) (ms : List (List Lift)) (ls : List Lift) → 0 < sumOf Old t ls → (f : List Lift → Fraction) (h : Lift → Fraction)
-    → ((l : Lift) → sumOver ms (λ m. weigh ts ls m ⊗ f (l ∷ m)) ≈ h l)
-    → sumOver (each (eligible t ls) ms) (λ m. weigh (t ∷ ts) ls m ⊗ f m) ≈ mean t (sumOf Old t ls) ls h
-unfolding product
+    → ((l : Lift) → sumOver ms (λ m. odds ts m ls ⊗ f (l ∷ m)) ≈ h l)
+    → sumOver (each (eligible t ls) ms) (λ m. odds (t ∷ ts) m ls ⊗ f m) ≈ mean t (sumOf Old t ls) ls h
+unfolding product odds
 mean-first t ts ms ls p f h e =
     mean-each t (sumOf Old t ls) p ms whole h
     (λ l.
     let q : Fraction = l .old .measure // sumOf Old t ls in
-    let part = sumOver-part q p (λ m. weigh ts ls m ⊗ f (l ∷ m)) (λ m. whole (l ∷ m)) (λ m. ⊗-assoc q (weigh ts ls m) (f (l ∷ m))) ms (e l .left) in
+    let part = sumOver-part q p (λ m. odds ts m ls ⊗ f (l ∷ m)) (λ m. whole (l ∷ m)) (λ m. ⊗-assoc q (odds ts m ls) (f (l ∷ m))) ms (e l .left) in
     ≈-trans part (⊗-≈ (≈-refl p) (e l)))
     ls
   where
     whole : List Lift → Fraction
-    whole m = weigh (t ∷ ts) ls m ⊗ f m
+    whole m = odds (t ∷ ts) m ls ⊗ f m
 
 -- f doesn't look at the lifts of old rounds that fail the test
 abbrev pub Unseen : (ℕ → Bool) → List Lift → (List Lift → Fraction) → Type 0
@@ -130,7 +106,7 @@ Unseen q ls f = (k m : List Lift) (i : ℕ) → i < length ls → q (nth ls i .o
 abbrev pub Reduces : (ℕ → Bool) → List Lift → List ℕ → List ℕ → Type 0
 Reduces q ls ts ds =
     (f : List Lift → Fraction) → ((m : List Lift) → 0 < f m .den) → Unseen q ls f
-    → sumOver (selectionsFrom ts ls) (λ m. weigh ts ls m ⊗ f m) ≈ means ds ls f
+    → sumOver (selectionsFrom ts ls) (λ m. odds ts m ls ⊗ f m) ≈ means ds ls f
 
 -- one more old round, looked at or not
 module _ (q : ℕ → Bool) (ls : List Lift) (t : ℕ) (ts ds : List ℕ) (p : 0 < sumOf Old t ls) (r : Reduces q ls ts ds) where
@@ -154,7 +130,7 @@ module _ (q : ℕ → Bool) (ls : List Lift) (t : ℕ) (ts ds : List ℕ) (p : 0
 -- the old rounds that fail the test drop out
 pub reduced : (ls : List Lift) (p q : ℕ → Bool) → ((t : ℕ) → q t ≡ true → p t ≡ true)
     → (a n : ℕ) → ((t : ℕ) → a ≤ t → t < a + n → p t ≡ true → 0 < sumOf Old t ls) → Reduces q ls (those p a n) (those q a n)
-unfolding those selectionsFrom sumOver product means
+unfolding those selectionsFrom sumOver product odds means
 reduced ls p q h a zero s = λ f d u. record { cross = omega arith; left = omega (arith, d []); right = d [] }
 reduced ls p q h a (suc n) s =
     go (p a) (q a) refl refl (reduced ls p q h (suc a) n (λ t l m. s t (omega arith) (omega arith)))

@@ -1,33 +1,30 @@
 -- Sums over selections and weights of paths: term by term, and with denominators above 0.
 use Prim.Native.Nat.{ℕ, zero, suc, _<_}
-use mathlib.Core.Path.{_≡_, refl, ap, ap₂}
+use mathlib.Core.Path.{_≡_, ap}
 use mathlib.Core.Bool.{Bool}
-use mathlib.Core.List.{List, [], _∷_, _++_, map, List·Memᴰ, List·Memᴰ·head, List·Memᴰ·tail}
+use mathlib.Core.List.{List, [], _∷_, _++_, map, List·Memᴰ}
 use native.Mathlib.Nat.{mul-pos}
 use native.Mathlib.Omega.{arith}
 use Rattle.laws.specs.Sum.{over, indicator}
-use Rattle.laws.specs.Fraction.{Fraction, _//_, _⊕_, _⊗_}
+use Rattle.laws.specs.Fraction.{Fraction, _//_, _⊗_, sumOver}
 use Rattle.laws.specs.Plan.{Plan, done, draw, Path, drew, paths, weight}
+use Rattle.laws.proofs.Fractions.{sumOver-ext}
 use Rattle.sheet.specs.Sheet.{Lift}
-use Rattle.selection.specs.Initial.{selections, marked, odds, sumOver, overSelections}
-
-sumOver-ext : (ms : List (List Lift)) {f g : List Lift → Fraction} → ((m : List Lift) → List·Memᴰ m ms → f m ≡ g m) → sumOver ms f ≡ sumOver ms g
-unfolding sumOver
-sumOver-ext [] h = refl
-sumOver-ext (m ∷ ms) h = ap₂ _⊕_ (h m (List·Memᴰ·head refl)) (sumOver-ext ms (λ n d. h n (List·Memᴰ·tail d)))
+use Rattle.sheet.specs.Rounds.{inUse}
+use Rattle.sheet.specs.declared.Side.the-variants.{Old}
+use Rattle.selection.specs.Initial.{selections, marked, odds, overSelections}
 
 -- the mean of f and of g, where they agree on every marked list
 pub selections-ext : (ls : List Lift) (f g : List Lift → Fraction) → ((m : List Lift) → List·Memᴰ m (selections ls) → f (marked m ls) ≡ g (marked m ls))
     → overSelections ls f ≡ overSelections ls g
 unfolding overSelections
-selections-ext ls f g h = sumOver-ext (selections ls) (λ m d. ap (λ x. odds m ls ⊗ x) (h m d))
+selections-ext ls f g h = sumOver-ext (selections ls) (λ m d. ap (λ x. odds (inUse Old ls) m ls ⊗ x) (h m d))
 
 -- ---- paths
 
 pub weight-ext : {A : Type 0} {t u : A → Bool} → ((a : A) → t a ≡ u a) → (ps : List (Path A)) → weight t ps ≡ weight u ps
 unfolding weight
-weight-ext h [] = refl
-weight-ext h (p ∷ ps) = ap₂ (λ x y. indicator x // p .bounds ⊕ y) (h (p .result)) (weight-ext h ps)
+weight-ext h ps = sumOver-ext ps (λ p _. ap (λ x. indicator x // p .bounds) (h (p .result)))
 
 -- the bounds of every path are above 0
 abbrev Positive : {A : Type 0} → List (Path A) → Type 0
@@ -53,7 +50,7 @@ positive-paths (done a) = (omega arith, tt)
 positive-paths (draw b k) = positive-over b _ (λ v l. positive-drew b v (omega arith) (paths (k v)) (positive-paths (k v)))
 
 weight-positive : {A : Type 0} (t : A → Bool) (ps : List (Path A)) → Positive ps → 0 < weight t ps .den
-unfolding weight
+unfolding weight sumOver
 weight-positive t [] h = omega arith
 weight-positive t (p ∷ ps) h = mul-pos (h .0) (weight-positive t ps (h .1))
 

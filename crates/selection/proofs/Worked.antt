@@ -5,6 +5,7 @@ use Rattle.laws.specs.Same.{allRight}
 use Rattle.laws.specs.Among.{among}
 use Rattle.laws.specs.Sum.{over, total, totalBy}
 use Rattle.laws.specs.Interval.{pick}
+use Rattle.laws.specs.Fraction.{sumOver}
 use Rattle.laws.specs.Plan.{after, paths, weight}
 use Rattle.draw.specs.Draw.{drawFrom}
 use Rattle.draw.specs.Run.{run}
@@ -15,7 +16,7 @@ use Rattle.sheet.specs.Reading.{fault, readFrom}
 use Rattle.sheet.specs.Refusal.{firstRound, ofRounds, verdict}
 use Rattle.sheet.specs.Rounds.{those, sends, ofRound, heldAt}
 use Rattle.selection.specs.Choice.{donorsOf, liftsOf, heldIn, planOf, liftAt, panelFrom, reply, written, output}
-use Rattle.selection.specs.Initial.{eligible, each, selectionsFrom, marked, product, odds, sumOver, overSelections}
+use Rattle.selection.specs.Initial.{eligible, each, selectionsFrom, marked, product, odds, overSelections}
 use Rattle.selection.specs.Fair.{share, kept}
 use Rattle.selection.specs.Worked.{cases, silentCases, right, rightShares, rightKeeping}
 
@@ -28,9 +29,9 @@ unfolding total totalBy pick after drawFrom run S U D oldWeight newWeight weight
 silent-right = refl
 
 pub exact-shares : rightShares ≡ true
-unfolding over total totalBy pick after paths weight S U D oldWeight newWeight weights G drawPlace firstOdds preliminaryBy stayOr keyfitz select plan those sends ofRound donorsOf liftsOf heldAt heldIn planOf liftAt eligible each selectionsFrom among marked product odds sumOver overSelections share
+unfolding over total totalBy pick after paths sumOver weight S U D oldWeight newWeight weights G drawPlace firstOdds preliminaryBy stayOr keyfitz select plan those sends ofRound donorsOf liftsOf heldAt heldIn planOf liftAt eligible each selectionsFrom among marked product odds overSelections share
 exact-shares = refl
 
 pub exact-keeping : rightKeeping ≡ true
-unfolding over total totalBy pick after paths weight S U D oldWeight newWeight weights G drawPlace firstOdds preliminaryBy stayOr keyfitz select plan those sends ofRound donorsOf liftsOf heldAt heldIn planOf liftAt eligible each selectionsFrom among marked product odds sumOver overSelections kept
+unfolding over total totalBy pick after paths sumOver weight S U D oldWeight newWeight weights G drawPlace firstOdds preliminaryBy stayOr keyfitz select plan those sends ofRound donorsOf liftsOf heldAt heldIn planOf liftAt eligible each selectionsFrom among marked product odds overSelections kept
 exact-keeping = refl

@@ -5,7 +5,7 @@ use mathlib.Core.Bool.{Bool, cond, _&&_}
 use mathlib.Core.List.{List, [], _∷_, _++_, map}
 use lib.Dec.{eqb, ltb}
 use Rattle.laws.specs.Among.{among}
-use Rattle.laws.specs.Fraction.{Fraction, _//_, _⊕_, _⊗_}
+use Rattle.laws.specs.Fraction.{Fraction, _//_, _⊗_, sumOver}
 use Rattle.sheet.specs.Sheet.{Lift}
 use Rattle.sheet.specs.Rounds.{inUse, sumOf}
 use Rattle.sheet.specs.declared.Side.the-variants.{Old}
@@ -46,15 +46,10 @@ unfoldable pub product : List ℕ → ℕ
 product [] = 1
 product (n ∷ ns) = n * product ns
 
--- "the product of the held lifts' old measures over the product of all old sums"
-unfoldable pub odds : List Lift → List Lift → Fraction
-odds m ls = product (map (λ l. l .old .measure) m) // product (map (λ t. sumOf Old t ls) (inUse Old ls))
-
--- f of each of some selections, added up
-unfoldable pub sumOver : List (List Lift) → (List Lift → Fraction) → Fraction
-sumOver [] f = 0 // 1
-sumOver (m ∷ ms) f = f m ⊕ sumOver ms f
+-- "the product of the held lifts' old measures over the product of all old sums", for the old rounds ts
+unfoldable pub odds : List ℕ → List Lift → List Lift → Fraction
+odds ts m ls = product (map (λ l. l .old .measure) m) // product (map (λ t. sumOf Old t ls) ts)
 
 -- the mean over all initial selections of f of the lifts so marked
 unfoldable pub overSelections : List Lift → (List Lift → Fraction) → Fraction
-overSelections ls f = sumOver (selections ls) (λ m. odds m ls ⊗ f (marked m ls))
+overSelections ls f = sumOver (selections ls) (λ m. odds (inUse Old ls) m ls ⊗ f (marked m ls))

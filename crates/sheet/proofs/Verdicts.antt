@@ -5,17 +5,16 @@ use mathlib.Core.Bool.{Bool, true, false, cond, _||_, or-true}
 use mathlib.Core.List.{List, [], _∷_}
 use native.Mathlib.Omega.{arith}
 use mathlib.Core.Logic.{_⊎_, inl, inr}
-use lib.Dec.{eqb, leb, ltb}
+use lib.Dec.{eqb, ltb}
 use lib.Count.{ones}
 use lib.ListN.{length, getD}
 use borrow.Author.Tests.{eq-eqb, ne-eqb, lt-ltb, le-ltb, ltb-false}
 use Rattle.sheet.specs.Sheet.{mostRounds, longest, Lift, lifts, sheetOf}
 use Rattle.sheet.specs.Reading.{Numbered, numbered, Reading, faulty, sound, start, reading, ofWords, Legible}
-use Rattle.sheet.specs.Rounds.{rounds, named, inUse, sumOf, heldIn, donors}
+use Rattle.sheet.specs.Rounds.{rounds, named, inUse, donors}
 use Rattle.sheet.specs.Refusal.{Verdict, refused, fits, breaks, unheld, oversize, unmeasured, crowded, firstRound, ofRounds, unlessFaulty, verdict, refusal, told}
 use Rattle.sheet.specs.Tables.{table, donorsOf, donorCounts, first}
 use Rattle.sheet.specs.Law.{Fit, Fitting, DecidedTheorem, Answered}
-use Rattle.sheet.specs.declared.Side.{Side}
 use Rattle.sheet.specs.declared.Side.the-variants.{Old, New}
 use Rattle.sheet.specs.declared.Rule.{Rule}
 use Rattle.sheet.specs.declared.Refusal.{Refusal}
