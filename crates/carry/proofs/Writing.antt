@@ -3,7 +3,7 @@
 use Prim.Native.Nat.{ℕ, suc, _+_, _*_, _^_, _≤_, _<_}
 use mathlib.Core.Path.{_≡_, refl, sym, ap, _∙_}
 use mathlib.Core.Bool.{Bool, true, false, cond}
-use mathlib.Core.List.{List, [], _∷_, _++_, map, append-assoc}
+use mathlib.Core.List.{List, [], _∷_, _++_, map, append-assoc, append-nil}
 use native.Mathlib.Omega.{arith}
 use lib.Dec.{eqb}
 use lib.ListN.{length, getD, set, drop, length-append, length-drop, length-map}
@@ -20,8 +20,7 @@ use Rattle.sheet.specs.declared.Side.the-variants.{New}
 use Rattle.sheet.proofs.Tables.{getD-tabulate, measure-lt}
 use Rattle.sheet.proofs.Trips.{read-theorem}
 use Rattle.sheet.proofs.Walks.{Between, between-none, behind, turn, last}
-use Rattle.carry.specs.Next.{remaining, uncounted, carried, carriedOn, inTable}
-use Rattle.carry.specs.Writing.{wordsOn}
+use Rattle.carry.specs.Next.{remaining, uncounted, carried, carriedOn, inTable, wordsOn}
 use Rattle.carry.proofs.Rounds.{remaining-counts, remaining-few}
 
 -- ---- how many remain
@@ -61,12 +60,12 @@ Put next k ws k′ next′ = (k′ ≡ k + length ws) × (next′ ≡ sets next 
 
 module _ (held : Lift → Bool) (l : Lift) where
   words-none : l .new .round ≡ 0 → wordsOn held l ≡ []
-  unfolding wordsOn
+  unfolding wordsOn remaining written
   words-none h = rw (eq-eqb (l .new .round) 0 h)
 
   words-some : (l .new .round ≡ 0 → ⊥) → wordsOn held l ≡ wordsOf (carried held l)
-  unfolding wordsOn
-  words-some h = rw (ne-eqb (l .new .round) 0 h)
+  unfolding wordsOn remaining written
+  words-some h = rw (ne-eqb (l .new .round) 0 h) (append-nil _)
 
   pub words-three : (l .new .round ≡ 0 → ⊥) → 3 ≤ length (wordsOn held l)
   words-three h = rw (words-some h) (omega arith)
@@ -109,9 +108,9 @@ module _ (held : Lift → Bool) where
   unfolding written remaining wordsOn
   written-first l ls end = go (eqb (l .new .round) 0)
     where
-      go : (t : Bool) → written (map (carried held) (cond t (remaining ls) (l ∷ remaining ls))) end ≡ cond t [] (wordsOf (carried held l)) ++ written (carriedOn held ls) end
+      go : (t : Bool) → written (map (carried held) (cond t (remaining ls) (l ∷ remaining ls))) end ≡ written (map (carried held) (cond t [] (l ∷ []))) [] ++ written (carriedOn held ls) end
       go true = refl
-      go false = refl
+      go false = ap (λ us. us ++ written (carriedOn held ls) end) (sym (append-nil (wordsOf (carried held l))))
 
   -- the end word of the lifts that remain
   abbrev endOf : List ℕ → List ℕ

@@ -2,4 +2,3 @@ pub mod Next
 pub mod Reply
 pub mod Law
 pub mod Worked
-pub mod Writing

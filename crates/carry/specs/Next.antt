@@ -5,7 +5,7 @@ use mathlib.Core.List.{List, [], _∷_, map}
 use lib.Dec.{eqb}
 use lib.ListN.{length, getD}
 use Rattle.laws.specs.Among.{among}
-use Rattle.sheet.specs.Sheet.{notCounted, Place, Lift, sheetOf}
+use Rattle.sheet.specs.Sheet.{notCounted, Place, Lift, written, sheetOf}
 use Rattle.sheet.specs.Rounds.{placeAt}
 use Rattle.sheet.specs.declared.Side.the-variants.{New}
 use Rattle.selection.specs.Choice.{Choice}
@@ -43,8 +43,12 @@ nextSheet cs ls = sheetOf (nextLifts cs ls)
 abbrev pub wordsNeeded : List Lift → ℕ → ℕ
 wordsNeeded ls rounds = 3 * length (remaining ls) + rounds + 1
 
--- ---- as the code finds it
+-- ---- as the code finds and writes it
 
 -- whether a lift is its new round's choice, from the numbers of the lifts chosen by round
 abbrev pub inTable : List ℕ → Lift → Bool
 inTable table l = eqb (getD table (l .new .round) 0) (l .number)
+
+-- the words that a lift has in next quarter's sheet, none where it is withdrawn
+unfoldable pub wordsOn : (Lift → Bool) → Lift → List ℕ
+wordsOn held l = written (carriedOn held (l ∷ [])) []

@@ -4,8 +4,7 @@ use mathlib.Core.Path.{refl, _∙_}
 use lib.ListN.{length, drop, length-set}
 use Rattle.sheet.specs.Sheet.{mostLifts, liftOf}
 use Rattle.sheet.proofs.Walks.{Turn, turn, inside, moved}
-use Rattle.carry.specs.Next.{inTable}
-use Rattle.carry.specs.Writing.{wordsOn}
+use Rattle.carry.specs.Next.{inTable, wordsOn}
 use Rattle.carry.proofs.Writing.{Writing, writing-none, same-long, words-fit, writing-turn, end-fits, writing-end, remaining-fit}
 use native.Mathlib.Omega.{arith}
 use borrow.Author.Needs.{needs}
