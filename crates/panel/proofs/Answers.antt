@@ -1,12 +1,12 @@
 -- The answer to a fitting sheet and the output: one law for each way out.
-use Prim.Native.Nat.{ℕ, _*_, _^_, _≤_, _<_}
-use mathlib.Core.Path.{_≡_, refl, sym, ap, _∙_}
+use Prim.Native.Nat.{ℕ, _-_, _*_, _^_, _≤_, _<_}
+use mathlib.Core.Path.{_≡_, refl, sym, ap, ap₂, _∙_}
 use mathlib.Core.Bool.{Bool, true, false, cond}
 use mathlib.Core.List.{List, []}
 use native.Mathlib.Omega.{arith}
 use lib.Dec.{ltb}
 use lib.ListN.{length}
-use borrow.Author.Tests.{eq-eqb, ne-eqb, ltb-false, lt-ltb, le-ltb}
+use borrow.Author.Tests.{ne-eqb, ltb-false, lt-ltb, le-ltb}
 use Rattle.sheet.specs.Sheet.{Lift, lifts}
 use Rattle.sheet.specs.Reading.{Numbered, numbered}
 use Rattle.sheet.specs.Rounds.{inUse}
@@ -18,39 +18,52 @@ use Rattle.sheet.specs.declared.Side.the-variants.{New}
 use Rattle.selection.specs.Choice.{Choice, Panel, chosen, short, panel, ofPanel, unlessLacking, ofLent, reply, written, writtenOf, output}
 use Rattle.selection.proofs.Steps.{Steps, steps, steps-count, steps-between}
 use Rattle.selection.proofs.Choices.{panel-rises}
-use Rattle.panel.specs.Choosing.{Gathers, Picked, pairs, PairsFit, toldBy, writtenBy}
+use Rattle.panel.specs.Choosing.{Gathers, Picked, pairs, withPairs, PairsFit, told, Answers}
 use Rattle.panel.specs.declared.Picks.{Picks}
+use Rattle.panel.specs.declared.Answer.{Answer}
 use Rattle.panel.proofs.Tabled.{tabled-each, pairs-tabled, length-written, written-behind}
 
 -- ---- the choices gathered
 
 -- where the words did not end, the choices are those of the panel
-record Done (ls : List Lift) (ws : List ℕ) (start : ℕ) (p : Picks) : Type 0 where
+pub record Done (ls : List Lift) (ws : List ℕ) (start : ℕ) (p : Picks) : Type 0 where
   pub choices : List Choice
   pub next : ℕ
+  pub is : panel ls ws start ≡ chosen choices next
   pub gathers : Gathers choices next p
   pub steps : Steps ls ws start (inUse New ls) choices next
 
 -- what `write_choices` asks and ensures, of choices that are a panel's
 module _ (ls : List Lift) (ws : List ℕ) (start : ℕ) (p : Picks) (d : Picked (panel ls ws start) p) where
-  done : p .short ≡ 0 → Done ls ws start p
+  pub done : p .short ≡ 0 → Done ls ws start p
   done z = go (panel ls ws start) refl d
     where
       go : (x : Panel) → panel ls ws start ≡ x → Picked x p → Done ls ws start p
-      go (chosen cs next) e g = record { choices = cs; next = next; gathers = g; steps = steps ls ws start (inUse New ls) e }
+      go (chosen cs next) e g = record { choices = cs; next = next; is = e; gathers = g; steps = steps ls ws start (inUse New ls) e }
       go (short r) e g = absurd (omega (arith, g .0, g .1))
+
+  -- where they ended, so did those of the panel
+  pub ended : (p .short ≡ 0 → ⊥) → panel ls ws start ≡ short (p .short)
+  ended h = go (panel ls ws start) refl d
+    where
+      go : (x : Panel) → panel ls ws start ≡ x → Picked x p → panel ls ws start ≡ short (p .short)
+      go (chosen cs next) e g = absurd (h (g .finished))
+      go (short r) e g = e ∙ ap short (sym (g .1))
 
   -- the words were read from the start on
   pub onward : p .short ≡ 0 → start ≤ p .next
   onward z = let x = done z in omega (arith, x .gathers .next, steps-between (x .steps) .0)
 
   -- the reply is the panel's
-  pub told-panel : toldBy p (length (inUse New ls)) start ≡ ofPanel start (panel ls ws start)
-  told-panel = go (panel ls ws start) refl d
-    where
-      go : (x : Panel) → panel ls ws start ≡ x → Picked x p → toldBy p (length (inUse New ls)) start ≡ ofPanel start x
-      go (chosen cs next) e g = rw (eq-eqb (p .short) 0 (g .finished), ← steps-count (steps ls ws start (inUse New ls) e), g .next)
-      go (short r) e g = rw (ne-eqb (p .short) 0 (λ z. omega (arith, g .0, g .1)), g .1)
+  pub told-ended : (p .short ≡ 0 → ⊥) → ofRefusal (numbered 13 (p .short)) ≡ ofPanel start (panel ls ws start)
+  told-ended h = rw (ended h)
+
+  pub told-done : {rounds : ℕ} → p .short ≡ 0 → rounds ≡ length (inUse New ls) → replied rounds (p .next - start) ≡ ofPanel start (panel ls ws start)
+  told-done z e = let x = done z in ap₂ replied (e ∙ sym (steps-count (x .steps))) (ap (λ n. n - start) (x .gathers .next)) ∙ sym (ap (ofPanel start) (x .is))
+
+  -- and so is the output
+  pub written-ended : (p .short ≡ 0 → ⊥) → (out : List ℕ) → out ≡ writtenOf (panel ls ws start) out
+  written-ended h out = rw (ended h)
 
   module _ (f : Fit ls) where
     pairs-are : {cs : List Choice} {next : ℕ} → Gathers cs next p → Steps ls ws start (inUse New ls) cs next → pairs (p .numbers) (p .outcomes) ≡ written cs []
@@ -67,14 +80,10 @@ module _ (ls : List Lift) (ws : List ℕ) (start : ℕ) (p : Picks) (d : Picked 
           outcomes = rw (x .gathers .outcomes) (tabled-each (λ v. v ≤ 3) (λ c. c .outcome) (λ c s. s .most) (omega arith) (x .choices) r);
         }
 
-    -- the output is the panel's
-    pub written-panel : (out : List ℕ) → writtenBy p out ≡ writtenOf (panel ls ws start) out
-    written-panel out = go (panel ls ws start) refl d
-      where
-        go : (x : Panel) → panel ls ws start ≡ x → Picked x p → writtenBy p out ≡ writtenOf x out
-        go (chosen cs next) e g =
-            rw (eq-eqb (p .short) 0 (g .finished), pairs-are g (steps ls ws start (inUse New ls) e), length-written cs) (sym (written-behind cs out))
-        go (short r) e g = rw (ne-eqb (p .short) 0 (λ z. omega (arith, g .0, g .1)))
+    pub written-done : p .short ≡ 0 → (out : List ℕ) → withPairs (p .numbers) (p .outcomes) out ≡ writtenOf (panel ls ws start) out
+    written-done z out =
+        let x = done z in
+        rw (x .is, pairs-are (x .gathers) (x .steps), length-written (x .choices)) (sym (written-behind (x .choices) out))
 
 -- ---- the ways out
 
@@ -121,14 +130,13 @@ module _ (n words start room : ℕ) where
 
 -- where the lists that were lent suffice, both are the panel's
 pub through : (ls : List Lift) (ws : List ℕ) (start : ℕ) (out : List ℕ) {n : ℕ} → n ≡ length (inUse New ls) → (start ≤ length ws) × (2 * n ≤ length out)
-    → (p : Picks) → Picked (panel ls ws start) p → Fit ls → {y : Reply} {out′ : List ℕ} → y ≡ toldBy p n start → out′ ≡ writtenBy p out
-    → (y ≡ ofLent ls (length (inUse New ls)) ws start (length out))
+    → (p : Picks) → Picked (panel ls ws start) p → Fit ls → {r : Answer} {out′ : List ℕ} → Answers p n start r out out′
+    → (told r ≡ ofLent ls (length (inUse New ls)) ws start (length out))
     × (out′ ≡ unlessRefused (ofLent ls (length (inUse New ls)) ws start (length out)) out (writtenOf (panel ls ws start) out))
-through ls ws start out q b p d f c g =
+through ls ws start out q b p d f s =
     let x = panel ls ws start in
     let a = rw q at b in
-    let e = rw q at c in
-    rw (← enough (length (inUse New ls)) (length ws) start (length out) (a .0) (ofPanel start x) (a .1)) (e ∙ told-panel ls ws start p d, g ∙ written-panel ls ws start p d f out ∙ left-panel start x out)
+    rw (← enough (length (inUse New ls)) (length ws) start (length out) (a .0) (ofPanel start x) (a .1)) (s .replies ls ws d q, s .writes ls ws d f ∙ left-panel start x out)
 
 -- ---- the whole sheet
 

@@ -4,7 +4,7 @@ use mathlib.Core.Path.{_≡_, refl, sym, ap, _∙_}
 use mathlib.Core.List.{List}
 use native.Mathlib.Omega.{arith}
 use lib.ListN.{length}
-use borrow.Author.Tests.{eq-eqb, ne-eqb, lt-ltb, le-ltb}
+use borrow.Author.Tests.{lt-ltb, le-ltb}
 use Rattle.sheet.specs.Sheet.{Lift, lifts, sheetOf}
 use Rattle.sheet.specs.Reading.{Numbered, numbered}
 use Rattle.sheet.specs.Rounds.{inUse}
@@ -13,15 +13,15 @@ use Rattle.sheet.specs.Reply.{Reply, ofRefusal, onto, unlessRefused}
 use Rattle.sheet.specs.Law.{Fit}
 use Rattle.sheet.specs.declared.Side.the-variants.{New}
 use Rattle.sheet.proofs.Verdicts.{decided}
-use Rattle.selection.specs.Choice.{Choice, Panel, chosen, short, panel, ofPanel, writtenOf}
-use Rattle.selection.proofs.Steps.{steps}
-use Rattle.carry.specs.Next.{remaining, nextLifts, wordsNeeded}
+use Rattle.selection.specs.Choice.{Panel, chosen, short, panel, ofPanel, writtenOf}
+use Rattle.carry.specs.Next.{remaining, nextSheet, wordsNeeded}
 use Rattle.carry.specs.Reply.{ofLentNext, replyNext, outputNext, carriedTo, lentSheet}
 use Rattle.carry.proofs.Carrying.{carries}
-use Rattle.panel.specs.Choosing.{Gathers, Picked, toldBy, writtenBy, sheetBy, carriedBy}
+use Rattle.panel.specs.Choosing.{Picked, told, Answers, sheetBy, CarriesOn}
 use Rattle.panel.specs.declared.Picks.{Picks}
+use Rattle.panel.specs.declared.Answer.{Answer}
 use Rattle.selection.proofs.Choices.{panel-rises}
-use Rattle.panel.proofs.Answers.{told-panel, written-panel, left, left-panel, enough}
+use Rattle.panel.proofs.Answers.{Done, done, ended, left, left-panel, enough}
 use Rattle.panel.proofs.Carried.{table-next}
 
 -- a refusal leaves both
@@ -31,23 +31,18 @@ both-left out new next newer h e = (e, (left out new h e .1, left next newer h e
 
 -- the lent sheet of choices that are a panel's
 module _ {ls : List Lift} (f : Fit ls) (ws : List ℕ) (start : ℕ) (p : Picks) (d : Picked (panel ls ws start) p) where
-  sheet-is : {cs : List Choice} {next : ℕ} → panel ls ws start ≡ chosen cs next → Gathers cs next p → sheetBy p ls ≡ sheetOf (nextLifts cs ls)
-  sheet-is e g = let k = steps ls ws start (inUse New ls) e in rw (g .numbers) (ap sheetOf (table-next f k (panel-rises f k)))
+  sheet-is : (x : Done ls ws start p) → sheetBy p ls ≡ nextSheet (x .choices) ls
+  sheet-is x = rw (x .gathers .numbers) (ap sheetOf (table-next f (x .steps) (panel-rises f (x .steps))))
 
   -- it has room in "the words needed"
   pub room : {space : ℕ} → wordsNeeded ls (length (inUse New ls)) ≤ space → p .short ≡ 0 → length (sheetBy p ls) ≤ space
-  room {space} h z = go (panel ls ws start) refl d
-    where
-      go : (x : Panel) → panel ls ws start ≡ x → Picked x p → length (sheetBy p ls) ≤ space
-      go (chosen cs next) e g = rw (sheet-is e g, carries ls f ws start next cs e .long) h
-      go (short r) e g = absurd (omega (arith, g .0, g .1))
+  room h z = let x = done ls ws start p d z in rw (sheet-is x, carries ls f ws start (x .next) (x .choices) (x .is) .long) h
 
-  carried-panel : (next : List ℕ) → carriedBy p ls next ≡ carriedTo (panel ls ws start) ls next
-  carried-panel next = go (panel ls ws start) refl d
-    where
-      go : (x : Panel) → panel ls ws start ≡ x → Picked x p → carriedBy p ls next ≡ carriedTo x ls next
-      go (chosen cs n) e g = rw (eq-eqb (p .short) 0 (g .finished)) (ap (λ ws. onto ws next) (sheet-is e g))
-      go (short r) e g = rw (ne-eqb (p .short) 0 (λ z. omega (arith, g .0, g .1)))
+  pub carried-done : p .short ≡ 0 → (next : List ℕ) → onto (sheetBy p ls) next ≡ carriedTo (panel ls ws start) ls next
+  carried-done z next = let x = done ls ws start p d z in rw (x .is) (ap (λ ws. onto ws next) (sheet-is x))
+
+pub carried-ended : (ls : List Lift) (ws : List ℕ) (start : ℕ) (p : Picks) → Picked (panel ls ws start) p → (p .short ≡ 0 → ⊥) → (next : List ℕ) → next ≡ carriedTo (panel ls ws start) ls next
+carried-ended ls ws start p d h next = rw (ended ls ws start p d h)
 
 -- where the words ended it is as it was
 left-next : (start : ℕ) (x : Panel) (ls : List Lift) (next : List ℕ) → carriedTo x ls next ≡ unlessRefused (ofPanel start x) next (carriedTo x ls next)
@@ -64,15 +59,15 @@ module _ (ls : List Lift) (ws : List ℕ) (start : ℕ) (out next : List ℕ) (m
   pub cramped : length next < 3 * m + n + 1 → ofRefusal (numbered 17 (3 * m + n + 1)) ≡ ofLentNext ls n ws start (length out) (length next)
   cramped h = rw (← enough n (length ws) start (length out) (a .0) _ (a .1), ← e, lt-ltb (length next) (3 * m + n + 1) h)
 
-  pub through-next : 3 * m + n + 1 ≤ length next → (p : Picks) → Picked (panel ls ws start) p → Fit ls → {y : Reply} {out′ next′ : List ℕ}
-      → y ≡ toldBy p n start → out′ ≡ writtenBy p out → next′ ≡ carriedBy p ls next
-      → (y ≡ ofLentNext ls n ws start (length out) (length next))
+  pub through-next : 3 * m + n + 1 ≤ length next → (p : Picks) → Picked (panel ls ws start) p → Fit ls → {r : Answer} {out′ next′ : List ℕ}
+      → Answers p n start r out out′ → CarriesOn p ls next next′
+      → (told r ≡ ofLentNext ls n ws start (length out) (length next))
       × ((out′ ≡ unlessRefused (ofLentNext ls n ws start (length out) (length next)) out (writtenOf (panel ls ws start) out))
       × (next′ ≡ unlessRefused (ofLentNext ls n ws start (length out) (length next)) next (carriedTo (panel ls ws start) ls next)))
-  through-next h p d f g k q =
+  through-next h p d f s q =
       let x = panel ls ws start in
       rw (← enough n (length ws) start (length out) (a .0) _ (a .1), ← e, le-ltb (length next) (3 * m + n + 1) h)
-      (g ∙ told-panel ls ws start p d, (k ∙ written-panel ls ws start p d f out ∙ left-panel start x out, q ∙ carried-panel f ws start p d next ∙ left-next start x ls next))
+      (s .replies ls ws d refl, (s .writes ls ws d f ∙ left-panel start x out, q ws start d f ∙ left-next start x ls next))
 
 -- ---- the whole sheet
 

@@ -1,5 +1,5 @@
 -- The rounds of a sheet laid out as rows, and the choices as the code gathers them.
-use Prim.Native.Nat.{ℕ, zero, suc, _+_, _-_, _^_, _≤_, _<_}
+use Prim.Native.Nat.{ℕ, zero, suc, _+_, _^_, _≤_, _<_}
 use mathlib.Core.Path.{_≡_}
 use mathlib.Core.Bool.{cond}
 use mathlib.Core.List.{List, [], _∷_, _++_}
@@ -12,12 +12,16 @@ use Rattle.round.specs.declared.Selected.{Selected}
 use Rattle.round.specs.declared.Selected.the-variants.{At as AtPlace, Short}
 use Rattle.sheet.specs.Sheet.{mostRounds, Lift, sheetOf}
 use Rattle.sheet.specs.Reading.{numbered}
+use Rattle.sheet.specs.Rounds.{inUse}
 use Rattle.sheet.specs.Refusal.{refusal}
+use Rattle.sheet.specs.Law.{Fit}
 use Rattle.sheet.specs.Reply.{Reply, ofRefusal, replied, onto}
+use Rattle.sheet.specs.declared.Side.the-variants.{New}
 use Rattle.sheet.specs.declared.Found.{Found}
 use Rattle.sheet.specs.declared.Found.the-variants.{At, Nothing}
-use Rattle.selection.specs.Choice.{Choice, Panel, chosen, short, byRound, pair}
+use Rattle.selection.specs.Choice.{Choice, Panel, chosen, short, panel, byRound, ofPanel, pair, writtenOf}
 use Rattle.carry.specs.Next.{carriedOn, inTable}
+use Rattle.carry.specs.Reply.{carriedTo}
 use Rattle.panel.specs.declared.Step.{Step}
 use Rattle.panel.specs.declared.Step.the-variants.{Passed, Chosen as ChosenLift, Short as Ended}
 use Rattle.panel.specs.declared.Picks.{Picks}
@@ -89,13 +93,11 @@ told (Next need) = ofRefusal (numbered 17 need)
 told (Words r) = ofRefusal (numbered 13 r)
 told (Chosen n k) = replied n k
 
--- what the choices of so many rounds reply: how many there are and how many words were read, or the round in which the words ended
-abbrev pub toldBy : Picks → (rounds start : ℕ) → Reply
-toldBy p rounds start = cond (eqb (p .short) 0) (replied rounds (p .next - start)) (ofRefusal (numbered 13 (p .short)))
-
--- the output with their pairs, or as it was where the words ended
-abbrev pub writtenBy : Picks → List ℕ → List ℕ
-writtenBy p out = cond (eqb (p .short) 0) (withPairs (p .numbers) (p .outcomes) out) out
+-- an answer to the choices of so many rounds, and the output before and after it: the reply and the output of every panel that has these
+-- choices, of lifts that fit
+pub record Answers (p : Picks) (rounds start : ℕ) (r : Answer) (before after : List ℕ) : Type 0 where
+  pub replies : (ls : List Lift) (ws : List ℕ) → Picked (panel ls ws start) p → rounds ≡ length (inUse New ls) → told r ≡ ofPanel start (panel ls ws start)
+  pub writes : (ls : List Lift) (ws : List ℕ) → Picked (panel ls ws start) p → Fit ls → after ≡ writtenOf (panel ls ws start) before
 
 -- ---- next quarter's sheet
 
@@ -103,6 +105,7 @@ writtenBy p out = cond (eqb (p .short) 0) (withPairs (p .numbers) (p .outcomes) 
 abbrev pub sheetBy : Picks → List Lift → List ℕ
 sheetBy p ls = sheetOf (carriedOn (inTable (p .numbers)) ls)
 
--- a lent sheet with it, or as it was where the words ended
-abbrev pub carriedBy : Picks → List Lift → List ℕ → List ℕ
-carriedBy p ls next = cond (eqb (p .short) 0) (onto (sheetBy p ls) next) next
+-- a lent sheet before and after the choices are carried on: that of every panel of these lifts, if they fit, that has these choices
+abbrev pub CarriesOn : Picks → List Lift → (before after : List ℕ) → Type 0
+CarriesOn p ls before after =
+    (ws : List ℕ) (start : ℕ) → Picked (panel ls ws start) p → Fit ls → after ≡ carriedTo (panel ls ws start) ls before

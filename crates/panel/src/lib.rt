@@ -19,7 +19,7 @@ ghost use Rattle.selection.specs.Fair.{Fair};
 ghost use Rattle.carry.specs.Next.{remaining};
 ghost use Rattle.carry.specs.Reply.{ofLentNext, replyNext, outputNext, carriedTo, lentSheet};
 ghost use Rattle.carry.specs.Law.{CarriesAll};
-ghost use Rattle.panel.specs.Choosing.{present, initialOf, stepOf, PairsFit, withPairs, Picked, told, toldBy, writtenBy, sheetBy, carriedBy};
+ghost use Rattle.panel.specs.Choosing.{present, initialOf, stepOf, PairsFit, withPairs, Picked, told, Answers, sheetBy, CarriesOn};
 use round::Donors;
 use round::Held;
 use round::Lift;
@@ -308,8 +308,7 @@ fn write_pairs(numbers: &[u32; Sheet::TABLE], outcomes: &[u32; Sheet::TABLE], ou
 fn write_choices(p: Picks, rounds: usize, start: usize, out: &mut [u32]) -> Answer
     requires { ⌜ (p .short ≡ 0 → PairsFit (p .numbers) (p .outcomes) (length (now out))) ⌝ }
     requires { ⌜ (p .short ≡ 0 → start ≤ p .next) ⌝ }
-    ensures { λ r. ⌜ told r ≡ toldBy p rounds start ⌝ }
-    ensures { λ _. ⌜ now (out .exit) ≡ writtenBy p (now (out .entry)) ⌝ }
+    ensures { λ r. ⌜ Answers p rounds start r (now (out .entry)) (now (out .exit)) ⌝ }
 {
     let short = p.short;
     if short != 0 {
@@ -373,7 +372,7 @@ fn write_next(sheet: &[u32], p: Picks, lifts: usize, next: &mut [u32])
     requires { ⌜ Legible (now sheet) ⌝ }
     requires { ⌜ lifts ≡ length (remaining (liftsOfSheet (now sheet))) ⌝ }
     requires { ⌜ (p .short ≡ 0 → length (sheetBy p (liftsOfSheet (now sheet))) ≤ length (now next)) ⌝ }
-    ensures { λ _. ⌜ now (next .exit) ≡ carriedBy p (liftsOfSheet (now (sheet .entry))) (now (next .entry)) ⌝ }
+    ensures { λ _. ⌜ CarriesOn p (liftsOfSheet (now (sheet .entry))) (now (next .entry)) (now (next .exit)) ⌝ }
 {
     if p.short == 0 {
         let numbers = p.numbers;

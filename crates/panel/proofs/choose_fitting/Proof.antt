@@ -59,8 +59,7 @@ returns-2 : tie.Need-returns-2
 returns-2 c =
     let s = c .before .before .before .before .before .before .before .before .before .before .before .before .before .before in
     let select = c .before .before .before .before .select-all in
-    let e = c .before .before .write-choices .ensures in
-    through (lifts (s .args .sheet .now)) (s .args .words .now) (s .args .start) (s .args .out .now) (rounds (c .before .before .before .before .before .before .before .before)) (nothing (c .before .before .before .before .before)) (select .result) (select .ensures) (fit (s .pre .0)) (e .0) (e .1)
+    through (lifts (s .args .sheet .now)) (s .args .words .now) (s .args .start) (s .args .out .now) (rounds (c .before .before .before .before .before .before .before .before)) (nothing (c .before .before .before .before .before)) (select .result) (select .ensures) (fit (s .pre .0)) (c .before .before .write-choices .ensures)
 
 pub choose-fitting-spec : {M : Type 1} → statement M
 choose-fitting-spec =

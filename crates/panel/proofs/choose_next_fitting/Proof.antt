@@ -96,7 +96,7 @@ returns-3 c =
     let n = rounds (c .before .before .before .before .before .before .before .before .before .before .before .before .before .before) in
     let e = rw n at (c .before .before .write-choices .ensures) in
     through-next (lifts (s .args .sheet .now)) (s .args .words .now) (s .args .start) (s .args .out .now) (s .args .next .now) (c .before .before .before .before .before .before .before .before .before .before .remaining .result) (nothing (c .before .before .before .before .before .before .before .before .before .before .before)) (c .before .before .before .before .before .before .before .before .before .before .remaining .ensures)
-    (rw n at (c .before .before .before .before .before .before .before .before .before .if2 .left)) (select .result) (select .ensures) (fit (s .pre .0)) (e .0) (e .1) (c .before .before .before .before .before .before .write-next .ensures)
+    (rw n at (c .before .before .before .before .before .before .before .before .before .if2 .left)) (select .result) (select .ensures) (fit (s .pre .0)) e (c .before .before .before .before .before .before .write-next .ensures)
 
 pub choose-next-fitting-spec : {M : Type 1} → statement M
 choose-next-fitting-spec =

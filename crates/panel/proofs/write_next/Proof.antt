@@ -1,6 +1,7 @@
 -- `panel::write_next` meets its contract: by whether the words ended. Assumes nothing.
+use mathlib.Core.Path.{_∙_}
+use Rattle.panel.proofs.Nexts.{carried-done, carried-ended}
 use borrow.Author.Needs.{needs}
-use borrow.Author.Tests.{eq-eqb, ne-eqb}
 use Rattle.panel.proofs.write_next.Statement.{statement}
 use Rattle.panel.proofs.write_next.Tie as tie
 
@@ -17,10 +18,10 @@ returns : tie.Need-returns
 returns c =
     let write = c .before .before in
     let if = write .before .before .before .before in
-    rw (eq-eqb (if .before .before .before .before .args .p .short) 0 (if .if1 .taken)) (write .write .ensures)
+    λ ws start d f. write .write .ensures ∙ carried-done f ws start _ d (if .if1 .taken) _
 
 returns-2 : tie.Need-returns-2
-returns-2 c = rw (ne-eqb (c .before .before .before .before .args .p .short) 0 (c .if1 .left))
+returns-2 c = λ ws start d f. carried-ended _ ws start _ d (c .if1 .left) _
 
 pub write-next-spec : {M : Type 1} → statement M
 write-next-spec = tie.close (tie.spec write-requires same-length returns returns-2)
