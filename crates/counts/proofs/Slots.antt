@@ -138,10 +138,10 @@ pub count-small : (l : List ℕ) {n c : ℕ} → entry l ≡ counted n c → c �
 count-small l e = entry-small l e .1
 
 -- so is a lift's count
-pub for-small : (xs : List (List ℕ)) (n : ℕ) {c : ℕ} → countFor xs n ≡ some c → c ≤ largestCount
+pub countFor-small : (xs : List (List ℕ)) (n : ℕ) {c : ℕ} → countFor xs n ≡ some c → c ≤ largestCount
 unfolding countFor
-for-small [] n {c} q = let z : _≡_ {A = ℕ} 0 1 = cc in absurd (omega arith)
-for-small (x ∷ xs) n {c} q = go (entry x) refl q (for-small xs n)
+countFor-small [] n {c} q = let z : _≡_ {A = ℕ} 0 1 = cc in absurd (omega arith)
+countFor-small (x ∷ xs) n {c} q = go (entry x) refl q (countFor-small xs n)
   where
     go : (e : Entry) → entry x ≡ e → countBy e n (countFor xs n) ≡ some c → (countFor xs n ≡ some c → c ≤ largestCount) → c ≤ largestCount
     go malformed h q r = r q
@@ -157,7 +157,7 @@ slot-small xs n = go (countFor xs n) refl
   where
     go : (o : Option ℕ) → countFor xs n ≡ o → slotOf o ≤ largestSum + 1
     go none e = omega arith
-    go (some c) e = omega (arith, for-small xs n e)
+    go (some c) e = omega (arith, countFor-small xs n e)
 
 -- ---- the loop
 

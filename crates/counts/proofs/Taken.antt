@@ -20,7 +20,7 @@ use Rattle.counts.specs.Text.{lines, Entry, counted, malformed, entry}
 use Rattle.laws.specs.Among.{among}
 use Rattle.counts.specs.Counts.{atLine, linesFrom, numbersOf, ofLines, hundreds, remeasured, countFor, measuredBy, measured, renewed, answer}
 use Rattle.counts.specs.Law.{TakenLine, Takes}
-use Rattle.counts.proofs.Slots.{count-small, for-small}
+use Rattle.counts.proofs.Slots.{count-small, countFor-small}
 
 -- ---- the lines
 
@@ -106,7 +106,7 @@ measured-writable xs l w = go (countFor xs (l .number)) refl
     go : (o : Option ℕ) → countFor xs (l .number) ≡ o → Writable (measuredBy l o)
     go none e = w
     go (some c) e =
-        record { number = w .number; old = w .old; new = record { round = w .new .round; measure = omega (arith, for-small xs (l .number) e) } }
+        record { number = w .number; old = w .old; new = record { round = w .new .round; measure = omega (arith, countFor-small xs (l .number) e) } }
 
 all-writable : (xs : List (List ℕ)) (n : ℕ) (ls : List Lift) → Listed n ls → AllWritable (map (measured xs) ls)
 unfolding Listed AllWritable
