@@ -3,6 +3,7 @@ use Prim.Native.Nat.{ℕ, zero, suc, _+_, _*_, _-_, _^_, _≤_, _<_}
 use mathlib.Core.Path.{_≡_, refl, sym, ap, _∙_}
 use mathlib.Core.Bool.{Bool, true, false, cond}
 use mathlib.Core.List.{List, [], _∷_, _++_, append-assoc, append-nil}
+use mathlib.Core.Option.{none, some}
 use native.Mathlib.Nat.{add-zero}
 use native.Mathlib.Numerals.{add-one}
 use native.Mathlib.Omega.{arith}
@@ -15,7 +16,7 @@ use Rattle.sheet.specs.Sheet.{newKind, endKind, placeOf, Lift, liftOf, lifts, w
 use Rattle.sheet.specs.Reading.{Legible}
 use Rattle.sheet.proofs.Walks.{Between, between-none, Turn, turn, last, inside, moved}
 use Rattle.sheet.proofs.Walks.{behind as past}
-use Rattle.counts.specs.Counts.{numbersOf, remeasured}
+use Rattle.counts.specs.Counts.{numbersOf, measuredBy}
 use Rattle.counts.specs.Scan.{wordWith, liftWith, liftsWith}
 
 -- where a lift is left there is a turn
@@ -77,14 +78,14 @@ words-with : (l : Lift) (v w : ℕ) (rest : List ℕ) → w ≡ cond (eqb v 0) (
 words-with l v w rest e = rw e (go (eqb v 0))
   where
     go : (t : Bool) → set (wordsOf l ++ rest) 2 (cond t (placeWord newKind (l .new)) (placeWord newKind (record { round = l .new .round; measure = v - 1 })))
-        ≡ wordsOf (cond t l (remeasured l (v - 1))) ++ rest
+        ≡ wordsOf (measuredBy l (cond t none (some (v - 1)))) ++ rest
     go true = refl
     go false = refl
 
 with-length : (l : Lift) (v : ℕ) → length (wordsOf (liftWith l v)) ≡ 3 + indicator (l .held)
 with-length l v = go (eqb v 0) (l .held)
   where
-    go : (t h : Bool) → length (wordsOf (cond t (record { number = l .number; old = l .old; new = l .new; held = h }) (remeasured (record { number = l .number; old = l .old; new = l .new; held = h }) (v - 1)))) ≡ 3 + indicator h
+    go : (t h : Bool) → length (wordsOf (measuredBy (record { number = l .number; old = l .old; new = l .new; held = h }) (cond t none (some (v - 1))))) ≡ 3 + indicator h
     go true true = refl
     go true false = refl
     go false true = refl

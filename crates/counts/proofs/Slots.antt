@@ -14,7 +14,7 @@ use Rattle.sheet.specs.declared.Found.{Found}
 use Rattle.sheet.specs.declared.Found.the-variants.{At, Nothing}
 use Rattle.counts.specs.Text.{LF, lines, before, behind, allDigits, value, empty, isNumber, largestLift, largestCount, Entry, counted, malformed, entry}
 use Rattle.laws.specs.Among.{among}
-use Rattle.counts.specs.Counts.{atLine, linesFrom, numbersOf, hundreds, countBy, countFor, measuredBy, measured}
+use Rattle.counts.specs.Counts.{atLine, linesFrom, numbersOf, hundreds, measureBy, measureFor, measuredBy, measured}
 use Rattle.counts.specs.Scan.{line, extent, lineOf, lineAt, RisingAbove, Numbers, Located, slotOf, slot, slots, Tells, liftWith, liftsWith}
 use Rattle.counts.specs.declared.Line.{Line}
 use Rattle.counts.specs.declared.Line.the-variants.{Entry as EntryLine, Malformed}
@@ -31,19 +31,19 @@ slot-at xs (n ∷ ns) zero h = refl
 slot-at xs (n ∷ ns) (suc k) h = slot-at xs ns k (omega arith)
 
 -- one line more fills a slot that is free
-slot-last : (xs : List (List ℕ)) (x : List ℕ) (n : ℕ) → slot (xs ++ (x ∷ [])) n ≡ cond (eqb (slot xs n) 0) (slotOf (countBy (entry x) n none)) (slot xs n)
-unfolding countFor
+slot-last : (xs : List (List ℕ)) (x : List ℕ) (n : ℕ) → slot (xs ++ (x ∷ [])) n ≡ cond (eqb (slot xs n) 0) (slotOf (measureBy (entry x) n none)) (slot xs n)
+unfolding measureFor
 slot-last [] x n = refl
 slot-last (y ∷ ys) x n = go (entry y) (slot-last ys x n)
   where
-    go : (e : Entry) → slot (ys ++ (x ∷ [])) n ≡ cond (eqb (slot ys n) 0) (slotOf (countBy (entry x) n none)) (slot ys n)
-        → slotOf (countBy e n (countFor (ys ++ (x ∷ [])) n))
-        ≡ cond (eqb (slotOf (countBy e n (countFor ys n))) 0) (slotOf (countBy (entry x) n none)) (slotOf (countBy e n (countFor ys n)))
+    go : (e : Entry) → slot (ys ++ (x ∷ [])) n ≡ cond (eqb (slot ys n) 0) (slotOf (measureBy (entry x) n none)) (slot ys n)
+        → slotOf (measureBy e n (measureFor (ys ++ (x ∷ [])) n))
+        ≡ cond (eqb (slotOf (measureBy e n (measureFor ys n))) 0) (slotOf (measureBy (entry x) n none)) (slotOf (measureBy e n (measureFor ys n)))
     go malformed h = h
     go (counted m c) h = by (eqb m n)
       where
-        by : (t : Bool) → slotOf (cond t (some c) (countFor (ys ++ (x ∷ [])) n))
-            ≡ cond (eqb (slotOf (cond t (some c) (countFor ys n))) 0) (slotOf (countBy (entry x) n none)) (slotOf (cond t (some c) (countFor ys n)))
+        by : (t : Bool) → slotOf (cond t (some (hundreds c)) (measureFor (ys ++ (x ∷ [])) n))
+            ≡ cond (eqb (slotOf (cond t (some (hundreds c)) (measureFor ys n))) 0) (slotOf (measureBy (entry x) n none)) (slotOf (cond t (some (hundreds c)) (measureFor ys n)))
         by true = rw (ne-eqb (hundreds c + 1) 0 (omega arith))
         by false = h
 
@@ -137,27 +137,27 @@ lift-small l e = omega (arith, entry-small l e .0)
 pub count-small : (l : List ℕ) {n c : ℕ} → entry l ≡ counted n c → c ≤ largestCount
 count-small l e = entry-small l e .1
 
--- so is a lift's count
-pub countFor-small : (xs : List (List ℕ)) (n : ℕ) {c : ℕ} → countFor xs n ≡ some c → c ≤ largestCount
-unfolding countFor
-countFor-small [] n {c} q = let z : _≡_ {A = ℕ} 0 1 = cc in absurd (omega arith)
-countFor-small (x ∷ xs) n {c} q = go (entry x) refl q (countFor-small xs n)
+-- so is a lift's new measure
+pub measureFor-small : (xs : List (List ℕ)) (n : ℕ) {m : ℕ} → measureFor xs n ≡ some m → m ≤ largestSum
+unfolding measureFor
+measureFor-small [] n {m} q = let z : _≡_ {A = ℕ} 0 1 = cc in absurd (omega arith)
+measureFor-small (x ∷ xs) n {m} q = go (entry x) refl q (measureFor-small xs n)
   where
-    go : (e : Entry) → entry x ≡ e → countBy e n (countFor xs n) ≡ some c → (countFor xs n ≡ some c → c ≤ largestCount) → c ≤ largestCount
+    go : (e : Entry) → entry x ≡ e → measureBy e n (measureFor xs n) ≡ some m → (measureFor xs n ≡ some m → m ≤ largestSum) → m ≤ largestSum
     go malformed h q r = r q
-    go (counted m d) h q r = by (eqb m n) q
+    go (counted l c) h q r = by (eqb l n) q
       where
-        by : (t : Bool) → cond t (some d) (countFor xs n) ≡ some c → c ≤ largestCount
-        by true q = let e : d ≡ c = cc in omega (arith, count-small x h)
+        by : (t : Bool) → cond t (some (hundreds c)) (measureFor xs n) ≡ some m → m ≤ largestSum
+        by true q = let e : hundreds c ≡ m = cc in omega (arith, count-small x h)
         by false q = r q
 
 -- every slot is small
 pub slot-small : (xs : List (List ℕ)) (n : ℕ) → slot xs n ≤ largestSum + 1
-slot-small xs n = go (countFor xs n) refl
+slot-small xs n = go (measureFor xs n) refl
   where
-    go : (o : Option ℕ) → countFor xs n ≡ o → slotOf o ≤ largestSum + 1
+    go : (o : Option ℕ) → measureFor xs n ≡ o → slotOf o ≤ largestSum + 1
     go none e = omega arith
-    go (some c) e = omega (arith, countFor-small xs n e)
+    go (some m) e = omega (arith, measureFor-small xs n e)
 
 -- ---- the loop
 
@@ -173,12 +173,12 @@ pub record Kept (text ns measures : List ℕ) (start i : ℕ) : Type 0 where
 
 -- no line yet: every slot is 0
 slots-zero : (ns : List ℕ) → slots ns [] ≡ replicate (length ns) 0
-unfolding countFor
+unfolding measureFor
 slots-zero [] = refl
 slots-zero (n ∷ ns) = ap (λ vs. 0 ∷ vs) (slots-zero ns)
 
 pub kept-none : (text ns : List ℕ) {measures : List ℕ} → measures ≡ replicate (length ns) 0 → Kept text ns measures 0 0
-unfolding among countFor
+unfolding among measureFor
 kept-none text ns e =
     record { done = []; had = []; parted = refl; same = refl; many = refl; heard = λ n. refl; filled = e ∙ sym (slots-zero ns); few = omega arith }
 
@@ -259,9 +259,9 @@ module _ {text ns measures : List ℕ} {start i : ℕ} (d : Kept text ns measure
 
 lift-slot : (l : Lift) (o : Option ℕ) → liftWith l (slotOf o) ≡ measuredBy l o
 lift-slot l none = refl
-lift-slot l (some c) = let m : hundreds c + 1 - 1 ≡ hundreds c = omega arith in rw (ne-eqb (hundreds c + 1) 0 (omega arith), m)
+lift-slot l (some m) = let e : m + 1 - 1 ≡ m = omega arith in rw (ne-eqb (m + 1) 0 (omega arith), e)
 
 pub lifts-slots : (xs : List (List ℕ)) (ls : List Lift) → liftsWith ls (slots (numbersOf ls) xs) ≡ map (measured xs) ls
 unfolding liftsWith
 lifts-slots xs [] = refl
-lifts-slots xs (l ∷ ls) = ap₂ _∷_ (lift-slot l (countFor xs (l .number))) (lifts-slots xs ls)
+lifts-slots xs (l ∷ ls) = ap₂ _∷_ (lift-slot l (measureFor xs (l .number))) (lifts-slots xs ls)

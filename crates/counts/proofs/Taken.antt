@@ -18,9 +18,9 @@ use Rattle.sheet.proofs.Trips.{placed-writable, read-theorem, back-theorem}
 use Rattle.sheet.proofs.Verdicts.{legible-words, decided, read-through}
 use Rattle.counts.specs.Text.{lines, Entry, counted, malformed, entry}
 use Rattle.laws.specs.Among.{among}
-use Rattle.counts.specs.Counts.{atLine, linesFrom, numbersOf, ofLines, hundreds, remeasured, countFor, measuredBy, measured, renewed, answer}
+use Rattle.counts.specs.Counts.{atLine, linesFrom, numbersOf, ofLines, hundreds, remeasured, measureFor, measuredBy, measured, renewed, answer}
 use Rattle.counts.specs.Law.{TakenLine, Takes}
-use Rattle.counts.proofs.Slots.{count-small, countFor-small}
+use Rattle.counts.proofs.Slots.{count-small, measureFor-small}
 
 -- ---- the lines
 
@@ -63,7 +63,7 @@ not-among n m ms h = go (eqb m n) refl h
     go false e h = (eqb-false m n e, h)
 
 each-line : (ns had : List ℕ) (i : ℕ) (xs : List (List ℕ)) → linesFrom ns had i xs ≡ sound → (j : ℕ) → j < length xs → Line ns had xs (getD xs j [])
-unfolding linesFrom countFor
+unfolding linesFrom measureFor
 each-line ns had i [] h j l = absurd (omega arith)
 each-line ns had i (x ∷ xs) h j l =
     let e = entered x i ns had (λ n. linesFrom ns (n ∷ had) (i + 1) xs) h in
@@ -101,12 +101,12 @@ each-line ns had i (x ∷ xs) h j l =
 -- ---- the words
 
 measured-writable : (xs : List (List ℕ)) (l : Lift) → Writable l → Writable (measured xs l)
-measured-writable xs l w = go (countFor xs (l .number)) refl
+measured-writable xs l w = go (measureFor xs (l .number)) refl
   where
-    go : (o : Option ℕ) → countFor xs (l .number) ≡ o → Writable (measuredBy l o)
+    go : (o : Option ℕ) → measureFor xs (l .number) ≡ o → Writable (measuredBy l o)
     go none e = w
-    go (some c) e =
-        record { number = w .number; old = w .old; new = record { round = w .new .round; measure = omega (arith, countFor-small xs (l .number) e) } }
+    go (some m) e =
+        record { number = w .number; old = w .old; new = record { round = w .new .round; measure = omega (arith, measureFor-small xs (l .number) e) } }
 
 all-writable : (xs : List (List ℕ)) (n : ℕ) (ls : List Lift) → Listed n ls → AllWritable (map (measured xs) ls)
 unfolding Listed AllWritable

@@ -9,11 +9,11 @@ use Rattle.sheet.specs.Rounds.{those, sends}
 use Rattle.sheet.specs.Refusal.{firstRound, ofRounds, verdict}
 use Rattle.counts.specs.Text.{lines, before, behind, allDigits, valueFrom, entry}
 use Rattle.laws.specs.Among.{among}
-use Rattle.counts.specs.Counts.{linesFrom, countFor, answer}
+use Rattle.counts.specs.Counts.{linesFrom, measureFor, answer}
 use Rattle.counts.specs.Worked.{right, lineCases, formCases, resultCases}
 
 pub right-lines : allRight right lineCases ≡ true
-unfolding totalBy lifts written fault readFrom those sends firstRound ofRounds verdict lines before behind allDigits valueFrom entry among linesFrom countFor answer
+unfolding totalBy lifts written fault readFrom those sends firstRound ofRounds verdict lines before behind allDigits valueFrom entry among linesFrom measureFor answer
 right-lines = refl
 
 pub right-forms : allRight right formCases ≡ true
@@ -21,5 +21,5 @@ unfolding lifts fault readFrom lines before behind allDigits valueFrom entry amo
 right-forms = refl
 
 pub right-results : allRight right resultCases ≡ true
-unfolding totalBy lifts written fault readFrom those sends firstRound ofRounds verdict lines before behind allDigits valueFrom entry among linesFrom countFor answer
+unfolding totalBy lifts written fault readFrom those sends firstRound ofRounds verdict lines before behind allDigits valueFrom entry among linesFrom measureFor answer
 right-results = refl

@@ -44,23 +44,23 @@ hundreds c = (c + 99) / 100
 abbrev pub remeasured : Lift → ℕ → Lift
 remeasured l m = record { number = l .number; old = l .old; new = record { round = l .new .round; measure = m }; held = l .held }
 
--- the count of lift n: that of a line, if it is the lift's, else another
-abbrev pub countBy : Entry → ℕ → Option ℕ → Option ℕ
-countBy (counted m c) n other = cond (eqb m n) (some c) other
-countBy malformed n other = other
+-- "the lift's new measure becomes the count divided by 100, rounded up": that of lift n, if the line is the lift's, else another
+abbrev pub measureBy : Entry → ℕ → Option ℕ → Option ℕ
+measureBy (counted m c) n other = cond (eqb m n) (some (hundreds c)) other
+measureBy malformed n other = other
 
--- the count that the lines have for lift n, if one is the lift's
-unfoldable pub countFor : List (List ℕ) → ℕ → Option ℕ
-countFor [] n = none
-countFor (x ∷ xs) n = countBy (entry x) n (countFor xs n)
+-- the new measure that the lines give lift n, if one is the lift's
+unfoldable pub measureFor : List (List ℕ) → ℕ → Option ℕ
+measureFor [] n = none
+measureFor (x ∷ xs) n = measureBy (entry x) n (measureFor xs n)
 
--- "the lift's new measure becomes the count divided by 100, rounded up"; "Lifts without a line keep theirs."
+-- "Lifts without a line keep theirs."
 abbrev pub measuredBy : Lift → Option ℕ → Lift
-measuredBy l (some c) = remeasured l (hundreds c)
+measuredBy l (some m) = remeasured l m
 measuredBy l none = l
 
 abbrev pub measured : List (List ℕ) → Lift → Lift
-measured xs l = measuredBy l (countFor xs (l .number))
+measured xs l = measuredBy l (measureFor xs (l .number))
 
 -- the words of the lifts with the counts of a text
 abbrev pub renewed : List ℕ → List ℕ → List ℕ

@@ -12,7 +12,7 @@ use Rattle.sheet.specs.declared.Found.{Found}
 use Rattle.sheet.specs.declared.Found.the-variants.{At, Nothing}
 use Rattle.counts.specs.Text.{LF, lines, isDigit, value, empty, isNumber, Entry, counted, malformed, entry}
 use Rattle.laws.specs.Among.{among}
-use Rattle.counts.specs.Counts.{linesFrom, hundreds, remeasured, countFor}
+use Rattle.counts.specs.Counts.{linesFrom, measureFor, measuredBy}
 use Rattle.counts.specs.declared.Digits.{Digits}
 use Rattle.counts.specs.declared.Number.{Number}
 use Rattle.counts.specs.declared.Number.the-variants.{Is, Not}
@@ -91,11 +91,11 @@ Located ns n Nothing = among n ns ≡ false
 
 -- a lift's slot: 0 without a line, else one more than the new measure
 abbrev pub slotOf : Option ℕ → ℕ
-slotOf (some c) = hundreds c + 1
+slotOf (some m) = m + 1
 slotOf none = 0
 
 abbrev pub slot : List (List ℕ) → ℕ → ℕ
-slot xs n = slotOf (countFor xs n)
+slot xs n = slotOf (measureFor xs n)
 
 -- the slots of the lifts with these numbers
 abbrev pub slots : List ℕ → List (List ℕ) → List ℕ
@@ -119,9 +119,13 @@ Tells ns xs (All n) measures = AllTaken ns xs n measures
 abbrev pub wordWith : ℕ → ℕ → ℕ
 wordWith w v = cond (eqb v 0) w (placeWord newKind (record { round = placeOf w .round; measure = v - 1 }))
 
+-- the new measure that a slot holds, if there is one
+abbrev pub measureIn : ℕ → Option ℕ
+measureIn v = cond (eqb v 0) none (some (v - 1))
+
 -- a lift with the measure of a slot
 abbrev pub liftWith : Lift → ℕ → Lift
-liftWith l v = cond (eqb v 0) l (remeasured l (v - 1))
+liftWith l v = measuredBy l (measureIn v)
 
 -- lifts with the measures of slots
 unfoldable pub liftsWith : List Lift → List ℕ → List Lift

@@ -78,7 +78,7 @@ HasSums (Two T₁ T₂) ls t = (t .new ≡ S ls) × (t .first ≡ U 1 ls) × (t 
 abbrev pub Multipliable : Donors → Sums → Type 0
 Multipliable None t = Unit {0}
 Multipliable (One T) t = Unit {0}
-Multipliable (Two T₁ T₂) t = ((T₁ ≤ capacity) × (T₂ ≤ capacity)) × ((t .new ≤ capacity) × (t .first ≤ capacity) × (t .second ≤ capacity))
+Multipliable (Two T₁ T₂) t = SumsBounded (Two T₁ T₂) × ((t .new ≤ capacity) × (t .first ≤ capacity) × (t .second ≤ capacity))
 
 -- what a donor's old measures are multiplied by
 abbrev pub multiplierOf : Scale → ℕ → ℕ
