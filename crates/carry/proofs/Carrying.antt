@@ -8,22 +8,22 @@ use native.Mathlib.Omega.{arith}
 use lib.Dec.{eqb}
 use lib.ListN.{length, getD, length-map}
 use borrow.Author.Tests.{eqb-true, eq-eqb, lt-ltb, le-ltb}
-use Rattle.laws.specs.Among.{among}
-use Rattle.laws.specs.Plan.{done}
-use Rattle.laws.proofs.Lists.{All, all-map}
+use Rattle.probability.specs.Among.{among}
+use Rattle.probability.specs.Plan.{done}
+use Rattle.probability.proofs.Lists.{All, all-map}
 use Rattle.draw.specs.Run.{run}
 use Rattle.round.specs.Choice.{selection, isHeld, outcome}
-use Rattle.laws.specs.Initial.{Initial, here, elsewhere}
+use Rattle.probability.specs.Initial.{Initial, here, elsewhere}
 use Rattle.round.specs.Share.{heldOf}
 use Rattle.round.specs.declared.Held.the-variants.{Single}
 use Rattle.sheet.specs.Sheet.{Lift, lifts}
-use Rattle.sheet.specs.Refusal.{fits, verdict}
-use Rattle.sheet.specs.Reply.{replied}
-use Rattle.sheet.specs.Law.{Fit}
-use Rattle.sheet.specs.declared.Side.the-variants.{Old, New}
+use Rattle.tally.specs.Verdict.{fits, verdict}
+use Rattle.reply.specs.Reply.{replied}
+use Rattle.tally.specs.Law.{Fit}
+use Rattle.sheet.specs.Lift.{Old, New, placeAt}
 use Rattle.sheet.proofs.Trips.{written-theorem}
-use Rattle.sheet.proofs.Verdicts.{decided, fits-sheet}
-use Rattle.sheet.specs.Rounds.{placeAt, inUse, donors, ofRound, heldAt}
+use Rattle.tally.proofs.Verdicts.{decided, fits-sheet}
+use Rattle.tally.specs.Rounds.{inUse, donors, ofRound, heldAt}
 use Rattle.selection.specs.Choice.{donorsOf, liftsOf, heldIn, planOf, nobody, liftAt, Choice, chosen, panelFrom, panel, written, reply, output}
 use Rattle.selection.proofs.Held.{sheet-length, sheet-short}
 use Rattle.selection.proofs.Flags.{ofRound-all, sends-has, flagged}

@@ -7,14 +7,14 @@ use native.Mathlib.Omega.{arith}
 use lib.Dec.{eqb, ltb}
 use lib.ListN.{length-map}
 use borrow.Author.Tests.{ne-eqb, ltb-true}
-use Rattle.laws.specs.Among.{among}
-use Rattle.laws.proofs.Lists.{All}
+use Rattle.probability.specs.Among.{among}
+use Rattle.probability.proofs.Lists.{All}
 use Rattle.sheet.specs.Sheet.{mostRounds, Lift}
-use Rattle.sheet.specs.Rounds.{named, inUse}
-use Rattle.sheet.specs.Law.{Fit}
-use Rattle.sheet.specs.declared.Side.the-variants.{Old, New}
-use Rattle.sheet.proofs.Sending.{crowded-donors}
-use Rattle.sheet.proofs.Those.{those-in}
+use Rattle.tally.specs.Rounds.{named, inUse}
+use Rattle.tally.specs.Law.{Fit}
+use Rattle.sheet.specs.Lift.{Old, New}
+use Rattle.tally.proofs.Sending.{crowded-donors}
+use Rattle.tally.proofs.Those.{those-in}
 use Rattle.selection.specs.Choice.{Choice, liftAt}
 use Rattle.selection.specs.Initial.{marked}
 use Rattle.selection.proofs.Naming.{Selected, none as selected-none, some as selected-some}

@@ -7,14 +7,13 @@ use native.Mathlib.Omega.{arith}
 use lib.Dec.{eqb, ltb, leb}
 use lib.ListN.{length}
 use borrow.Author.Tests.{eqb-true, eqb-false, ne-eqb}
-use Rattle.laws.specs.Sum.{totalBy}
+use Rattle.probability.specs.Sum.{totalBy}
 use Rattle.sheet.specs.Sheet.{mostRounds, notCounted, oldKind, newKind, Lift}
 use Rattle.sheet.specs.Reading.{tooLarge}
-use Rattle.sheet.specs.Rounds.{filledIn, placeAt, named, inUse, sumOf, sends, donors, ofRound}
+use Rattle.sheet.specs.Lift.{filledIn, placeAt, Side, Old, New}
+use Rattle.tally.specs.Rounds.{named, inUse, sumOf, sends, donors, ofRound}
 use Rattle.sheet.specs.Law.{Listed}
-use Rattle.sheet.specs.declared.Side.{Side}
-use Rattle.sheet.specs.declared.Side.the-variants.{Old, New}
-use Rattle.sheet.proofs.Those.{those-ext, those-none, those-only}
+use Rattle.tally.proofs.Those.{those-ext, those-none, those-only}
 use Rattle.carry.specs.Next.{remaining, carried, carriedOn}
 
 module _ (held : Lift → Bool) where

@@ -5,9 +5,9 @@ use mathlib.Core.Bool.{false}
 use mathlib.Core.List.{List, [], _∷_, map, List·Memᴰ·head, List·Memᴰ·tail}
 use native.Mathlib.Omega.{arith}
 use borrow.Author.Tests.{eq-eqb, le-leb}
-use Rattle.laws.specs.Sum.{total, totalBy}
-use Rattle.laws.specs.Plan.{done, after}
-use Rattle.laws.proofs.Lists.{All}
+use Rattle.probability.specs.Sum.{total, totalBy}
+use Rattle.probability.specs.Plan.{done, after}
+use Rattle.probability.proofs.Lists.{All}
 use Rattle.round.specs.Round.{S, U, D, sent, oldWeight, newWeight, weights, weightAt}
 use Rattle.round.specs.Choice.{selection, preliminaryBy, stayOr, keyfitz, select, plan}
 use Rattle.round.specs.declared.Donors.the-variants.{One}

@@ -9,15 +9,15 @@ use lib.Dec.{eqb}
 use lib.ListN.{length, getD, set, drop, length-append, length-drop, length-map}
 use lib.Seq.{sets, sets-eq, take-at, drop-append-add, drop-drop}
 use borrow.Author.Tests.{eq-eqb, ne-eqb}
-use Rattle.laws.specs.Sum.{indicator}
+use Rattle.probability.specs.Sum.{indicator}
 use Rattle.sheet.specs.Sheet.{mostLifts, mostRounds, notCounted, liftKind, oldKind, newKind, heldKind, endKind, Lift, liftOf, lifts, word, placeWord, wordsOf, written, sheetOf}
 use Rattle.sheet.specs.Reading.{Legible}
-use Rattle.sheet.specs.Rounds.{placeAt, named}
-use Rattle.sheet.specs.Reply.{onto}
-use Rattle.sheet.specs.Tables.{table, entryOf}
-use Rattle.sheet.specs.declared.Entry.{Entry}
-use Rattle.sheet.specs.declared.Side.the-variants.{New}
-use Rattle.sheet.proofs.Tables.{getD-tabulate, measure-lt}
+use Rattle.sheet.specs.Lift.{placeAt, entryOf, New}
+use Rattle.tally.specs.Rounds.{named}
+use Rattle.reply.specs.Reply.{onto}
+use Rattle.tally.specs.Tables.{table}
+use Rattle.sheet.specs.declared.lifts.Entry.{Entry}
+use Rattle.tally.proofs.Tables.{getD-tabulate, measure-lt}
 use Rattle.sheet.proofs.Trips.{read-theorem}
 use Rattle.sheet.proofs.Walks.{Between, between-none, behind, turn, last}
 use Rattle.carry.specs.Next.{remaining, uncounted, carried, carriedOn, inTable, wordsOn}

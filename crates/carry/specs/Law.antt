@@ -4,11 +4,11 @@ use mathlib.Core.Path.{_≡_}
 use mathlib.Core.List.{List, [], map}
 use lib.ListN.{length}
 use Rattle.sheet.specs.Sheet.{Lift, lifts}
-use Rattle.sheet.specs.Rounds.{inUse}
-use Rattle.sheet.specs.Refusal.{fits, verdict}
-use Rattle.sheet.specs.Reply.{replied}
-use Rattle.sheet.specs.Law.{Fit}
-use Rattle.sheet.specs.declared.Side.the-variants.{New}
+use Rattle.tally.specs.Rounds.{inUse}
+use Rattle.tally.specs.Verdict.{fits, verdict}
+use Rattle.reply.specs.Reply.{replied}
+use Rattle.tally.specs.Law.{Fit}
+use Rattle.sheet.specs.Lift.{New}
 use Rattle.selection.specs.Choice.{Choice, chosen, panel, written, reply, output}
 use Rattle.carry.specs.Next.{remaining, nextLifts, nextSheet, wordsNeeded}
 

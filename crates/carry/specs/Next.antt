@@ -4,10 +4,9 @@ use mathlib.Core.Bool.{Bool, cond}
 use mathlib.Core.List.{List, [], _∷_, map}
 use lib.Dec.{eqb}
 use lib.ListN.{length, getD}
-use Rattle.laws.specs.Among.{among}
+use Rattle.probability.specs.Among.{among}
 use Rattle.sheet.specs.Sheet.{notCounted, Place, Lift, written, sheetOf}
-use Rattle.sheet.specs.Rounds.{placeAt}
-use Rattle.sheet.specs.declared.Side.the-variants.{New}
+use Rattle.sheet.specs.Lift.{placeAt, New}
 use Rattle.selection.specs.Choice.{Choice}
 
 -- "lifts in order, withdrawn ones left out": those of a new round

@@ -5,10 +5,9 @@ use mathlib.Core.List.{List}
 use lib.Dec.{ltb}
 use lib.ListN.{length}
 use Rattle.sheet.specs.Sheet.{Lift, lifts}
-use Rattle.sheet.specs.Reading.{numbered}
-use Rattle.sheet.specs.Refusal.{verdict}
-use Rattle.sheet.specs.Reply.{Reply, ofRefusal, onto, unlessRefused}
-use Rattle.selection.specs.Choice.{Panel, chosen, short, panel, ofPanel, unlessLacking, ofVerdict, writtenOf}
+use Rattle.reply.specs.Reply.{numbered, Reply, ofRefusal, onto, unlessRefused}
+use Rattle.tally.specs.Verdict.{verdict, ofVerdict}
+use Rattle.selection.specs.Choice.{Panel, chosen, short, panel, ofPanel, unlessLacking, writtenOf}
 use Rattle.carry.specs.Next.{nextSheet, wordsNeeded}
 
 -- "17 when the lent sheet has too few words; place the words needed, after 12 and before 13."

@@ -5,13 +5,12 @@ ghost use lib.ListN.{length, drop};
 ghost use lib.Seq.{sets};
 ghost use Rattle.sheet.specs.Sheet.{mostRounds, oldKind, newKind, liftOf, lifts as liftsOfSheet, placeWord, sheetOf};
 ghost use Rattle.sheet.specs.Reading.{Legible};
-ghost use Rattle.sheet.specs.Rounds.{placeAt};
-ghost use Rattle.sheet.specs.Tables.{Marked, Tabled};
-ghost use Rattle.sheet.specs.Reply.{onto};
+ghost use Rattle.sheet.specs.Lift.{placeAt, New, Marked};
+ghost use Rattle.tally.specs.Tables.{Tabled};
+ghost use Rattle.reply.specs.Reply.{onto};
 ghost use Rattle.carry.specs.Next.{remaining as remainingOf, uncounted, carriedOn, inTable, wordsOn};
 use sheet::Sheet;
-use sheet::Side;
-use sheet::Tallies;
+use tally::Tallies;
 
 // How many of a sheet's lifts have a new round, from its tables.
 pub fn remaining(sheet: &[u32], t: Tallies) -> usize
@@ -27,7 +26,7 @@ pub fn remaining(sheet: &[u32], t: Tallies) -> usize
 fn old_word(sheet: &[u32], i: usize) -> u32
     requires { ⌜ i + 3 < length (now sheet) ⌝ }
     requires { ⌜ Marked (drop i (now sheet)) ⌝ }
-    ensures { λ r. ⌜ r ≡ placeWord oldKind (placeAt Side.New (liftOf (drop i (now (sheet .entry))))) ⌝ }
+    ensures { λ r. ⌜ r ≡ placeWord oldKind (placeAt New (liftOf (drop i (now (sheet .entry))))) ⌝ }
 {
     let l = sheet::entry_at(sheet, i);
     Sheet::word(Sheet::OLD, Sheet::place(l.to as u32, l.new as u32))

@@ -7,9 +7,9 @@ use native.Mathlib.Omega.{arith}
 use lib.Dec.{eqb, leb, ltb}
 use lib.ListN.{length, getD}
 use borrow.Author.Tests.{eqb-true, eqb-false, eq-eqb, ne-eqb, leb-true, leb-false, ltb-true, ltb-false, lt-ltb, le-ltb}
-use Rattle.laws.specs.Sum.{indicator}
+use Rattle.probability.specs.Sum.{indicator}
 use Rattle.sheet.specs.Sheet.{mostLifts}
-use Rattle.laws.specs.Among.{among}
+use Rattle.probability.specs.Among.{among}
 use Rattle.counts.specs.Scan.{RisingAbove, Numbers, cutAt}
 
 -- each number is above the bound, and above those before it

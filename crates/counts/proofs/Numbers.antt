@@ -11,8 +11,8 @@ use lib.Seq.{drop-cons}
 use borrow.Author.Tests.{ltb-true, ltb-false, lt-ltb, le-ltb, leb-true, le-leb, lt-leb, lt-ltb}
 use Rattle.counts.specs.Text.{isDigit, allDigits, valueFrom, value, empty}
 use Rattle.counts.specs.Scan.{cap, clamp, span, leading, digitsAt, numberAt}
-use Rattle.counts.specs.declared.Digits.{Digits}
-use Rattle.counts.specs.declared.Number.the-variants.{Is, Not}
+use Rattle.counts.specs.declared.text.Digits.{Digits}
+use Rattle.counts.specs.declared.text.Number.the-variants.{Is, Not}
 
 pub and-split : (a b : Bool) → (a && b) ≡ true → (a ≡ true) × (b ≡ true)
 and-split true b h = (refl, h)

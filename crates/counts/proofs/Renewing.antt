@@ -11,11 +11,10 @@ use lib.Dec.{eqb, ltb}
 use lib.ListN.{length, getD, set, take, drop, drop-of-length-le, length-set, length-append, length-drop}
 use lib.Seq.{drop-drop, drop-at, drop-cons, getD-drop, take-suc-set, take-all}
 use borrow.Author.Tests.{ltb-true, ltb-false, eq-eqb, ne-eqb}
-use Rattle.laws.specs.Sum.{indicator}
+use Rattle.probability.specs.Sum.{indicator}
 use Rattle.sheet.specs.Sheet.{newKind, endKind, placeOf, Lift, liftOf, lifts, word, placeWord, wordsOf, written, sheetOf}
 use Rattle.sheet.specs.Reading.{Legible}
-use Rattle.sheet.proofs.Walks.{Between, between-none, Turn, turn, last, inside, moved}
-use Rattle.sheet.proofs.Walks.{behind as past}
+use Rattle.sheet.proofs.Walks.{Between, between-none, Turn, turn, last, inside, moved, behind as past}
 use Rattle.counts.specs.Counts.{numbersOf, measuredBy}
 use Rattle.counts.specs.Scan.{wordWith, liftWith, liftsWith}
 

@@ -10,15 +10,16 @@ use lib.ListN.{length, getD, set, drop, replicate, drop-of-length-le, length-app
 use lib.Seq.{drop-cons, drop-drop}
 use borrow.Author.Tests.{eqb-true, eqb-false, eq-eqb, ne-eqb, leb-true}
 use Rattle.sheet.specs.Sheet.{largestSum, Lift}
-use Rattle.sheet.specs.declared.Found.{Found}
-use Rattle.sheet.specs.declared.Found.the-variants.{At, Nothing}
+use Rattle.tally.specs.declared.Found.{Found}
+use Rattle.tally.specs.declared.Found.the-variants.{At, Nothing}
 use Rattle.counts.specs.Text.{LF, lines, before, behind, allDigits, value, empty, isNumber, largestLift, largestCount, Entry, counted, malformed, entry}
-use Rattle.laws.specs.Among.{among}
+use Rattle.probability.specs.Among.{among}
 use Rattle.counts.specs.Counts.{atLine, linesFrom, numbersOf, hundreds, measureBy, measureFor, measuredBy, measured}
 use Rattle.counts.specs.Scan.{line, extent, lineOf, lineAt, RisingAbove, Numbers, Located, slotOf, slot, slots, Tells, liftWith, liftsWith}
-use Rattle.counts.specs.declared.Line.{Line}
-use Rattle.counts.specs.declared.Line.the-variants.{Entry as EntryLine, Malformed}
-use Rattle.counts.specs.declared.Lines.the-variants.{Form, Lift as AboutLift, All}
+use Rattle.counts.specs.declared.text.Line.{Line}
+use Rattle.counts.specs.declared.text.Line.the-variants.{Entry as EntryLine, Malformed}
+use Rattle.counts.specs.declared.lines.Lines.the-variants.{Faulty, All}
+use Rattle.reply.specs.declared.Refusal.the-variants.{Form, Lift as AboutLift}
 use Rattle.counts.proofs.Numbers.{and-split}
 use Rattle.counts.proofs.Texts.{first-line}
 use Rattle.counts.proofs.Finding.{rising-above, present}
@@ -197,7 +198,7 @@ module _ {text ns measures : List ℕ} {start i : ℕ} (d : Kept text ns measure
       record { sound = sym (d .same) ∙ rw z; many = d .many ∙ ap length w; filled = d .filled ∙ ap (slots ns) w }
 
   module _ (h : start < length text) {x : Line} (e : x ≡ lineAt text start) where
-    pub kept-malformed : x ≡ Malformed → Tells ns (lines text) (Form (i + 1)) measures
+    pub kept-malformed : x ≡ Malformed → Tells ns (lines text) (Faulty (Form (i + 1))) measures
     unfolding linesFrom
     kept-malformed q = sym (d .same) ∙ rw (step-lines text start h, line-malformed text start e q)
 
@@ -221,7 +222,7 @@ module _ {text ns measures : List ℕ} {start i : ℕ} (d : Kept text ns measure
       kept-less = omega (arith, line-entry text start e q .1, extent-pos text start h)
 
       module _ {y : Found} (f : Located ns n y) where
-        pub kept-absent : y ≡ Nothing → Tells ns (lines text) (AboutLift (i + 1)) measures
+        pub kept-absent : y ≡ Nothing → Tells ns (lines text) (Faulty (AboutLift (i + 1))) measures
         kept-absent g = let a : among n ns ≡ false = rw g at f in sym (rw a at turned)
 
         module _ {k : ℕ} (g : y ≡ At k) where
@@ -231,7 +232,7 @@ module _ {text ns measures : List ℕ} {start i : ℕ} (d : Kept text ns measure
           value-at : getD measures k 0 ≡ slot (d .done) n
           value-at = let p = kept-place in rw (d .filled, slot-at (d .done) ns k (p .0), p .1)
 
-          pub kept-had : (getD measures k 0 ≡ 0 → ⊥) → Tells ns (lines text) (AboutLift (i + 1)) measures
+          pub kept-had : (getD measures k 0 ≡ 0 → ⊥) → Tells ns (lines text) (Faulty (AboutLift (i + 1))) measures
           kept-had o =
               let a : among n (d .had) ≡ true = d .heard n ∙ ap not (ne-eqb (slot (d .done) n) 0 (λ z. o (value-at ∙ z))) in
               sym (rw (a, and-false (among n ns)) at turned)

@@ -10,14 +10,15 @@ use lib.Dec.{eqb}
 use lib.ListN.{length, getD, length-map}
 use borrow.Author.Tests.{eq-eqb, ne-eqb, eqb-false}
 use Rattle.sheet.specs.Sheet.{notCounted, Lift, lifts}
-use Rattle.sheet.specs.Reading.{numbered, Reading, faulty, sound, ofWords}
-use Rattle.sheet.specs.Rounds.{placeAt}
+use Rattle.reply.specs.Reply.{numbered}
+use Rattle.sheet.specs.Reading.{Reading, faulty, sound, ofWords}
+use Rattle.sheet.specs.Lift.{placeAt, New}
 use Rattle.sheet.specs.Law.{Listed, Writable, AllWritable}
-use Rattle.sheet.specs.declared.Side.the-variants.{New}
 use Rattle.sheet.proofs.Trips.{placed-writable, read-theorem, back-theorem}
-use Rattle.sheet.proofs.Verdicts.{legible-words, decided, read-through}
+use Rattle.sheet.proofs.Legibility.{legible-words}
+use Rattle.tally.proofs.Verdicts.{decided, read-through}
 use Rattle.counts.specs.Text.{lines, Entry, counted, malformed, entry}
-use Rattle.laws.specs.Among.{among}
+use Rattle.probability.specs.Among.{among}
 use Rattle.counts.specs.Counts.{atLine, linesFrom, numbersOf, ofLines, hundreds, remeasured, measureFor, measuredBy, measured, renewed, answer}
 use Rattle.counts.specs.Law.{TakenLine, Takes}
 use Rattle.counts.proofs.Slots.{count-small, measureFor-small}

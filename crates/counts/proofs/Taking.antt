@@ -5,35 +5,27 @@ use mathlib.Core.List.{List, [], _∷_}
 use native.Mathlib.Omega.{arith}
 use lib.ListN.{length, getD, take, replicate, length-map}
 use Rattle.sheet.specs.Sheet.{largestSum, Lift, lifts, sheetOf}
-use Rattle.sheet.specs.Reading.{numbered, faulty, ofWords, Legible}
-use Rattle.sheet.specs.Refusal.{refused, fits, unlessFaulty, verdict, refusal, told as saidOf, toldOfWords}
-use Rattle.sheet.specs.Reply.{Reply, replied, ofRefusal}
+use Rattle.reply.specs.Reply.{Reply, replied, ofRefusal}
+use Rattle.sheet.specs.Reading.{faulty, ofWords, Legible, readingOf}
+use Rattle.tally.specs.Verdict.{refused, fits, unlessFaulty, verdict, verdictOf as saidOf, ofVerdict}
+use Rattle.reply.specs.Refusal.{refusalOf}
 use Rattle.sheet.specs.Law.{Listed}
 use Rattle.sheet.proofs.Trips.{read-theorem}
-use Rattle.sheet.proofs.Verdicts.{legible-words, words-legible}
+use Rattle.sheet.proofs.Legibility.{legible-words, words-legible}
 use Rattle.sheet.specs.declared.Sheet.{Sheet}
-use Rattle.sheet.specs.declared.Refusal.{Refusal}
-use Rattle.sheet.specs.declared.Checked.{Checked}
-use Rattle.sheet.specs.declared.Checked.the-variants.{Refused, Fits}
+use Rattle.reply.specs.declared.Refusal.{Refusal}
+use Rattle.tally.specs.declared.Checked.{Checked}
+use Rattle.tally.specs.declared.Checked.the-variants.{Refused, Fits}
 use Rattle.sheet.specs.declared.Judged.{Judged}
 use Rattle.sheet.specs.declared.Judged.the-variants.{Faulty, Sound}
 use Rattle.counts.specs.Text.{lines}
-use Rattle.counts.specs.Counts.{numbersOf, ofLines, renewed, answer, replyOf, outputOf, reply, output, told}
+use Rattle.counts.specs.Counts.{numbersOf, ofLines, renewed, answer, outputOf, reply, output}
 use Rattle.counts.specs.Scan.{RisingAbove, Numbers, slot, slots, AllTaken, Tells, liftsWith, sheetWith}
-use Rattle.counts.specs.declared.Answer.{Answer}
-use Rattle.counts.specs.declared.Answer.the-variants.{Sheet as AboutSheet, Form as FormAt, Lift as LiftAt, Taken}
-use Rattle.counts.specs.declared.Lines.{Lines}
-use Rattle.counts.specs.declared.Lines.the-variants.{Form, Lift as AboutLift, All}
+use Rattle.counts.specs.declared.lines.Lines.{Lines}
+use Rattle.counts.specs.declared.lines.Lines.the-variants.{Faulty as FaultyLine, All}
 use Rattle.counts.proofs.Slots.{slot-small, lifts-slots}
 
--- ---- the answer's third number, and room that is all zeros
-
-pub third-none : (a : Answer) → 0 ≡ told a .third
-third-none (AboutSheet x) = refl
-third-none (FormAt i) = refl
-third-none (LiftAt i) = refl
-third-none (Taken n) = refl
-
+-- room that is all zeros
 pub zeros : (m n : ℕ) → n ≤ m → take {A = ℕ} n (replicate m 0) ≡ replicate n 0
 zeros m zero h = refl
 zeros zero (suc n) h = absurd (omega arith)
@@ -63,10 +55,10 @@ numbers {ws} l =
 -- ---- the result
 
 module _ (n : ℕ) (old ws : List ℕ) {r : Checked} (h : saidOf r ≡ verdict ws) where
-  pub finish-refused : {x : Refusal} → r ≡ Refused x → (ofRefusal (refusal x) ≡ replyOf n (verdict ws)) × (old ≡ outputOf old ws (verdict ws))
-  finish-refused {x} e = let v : refused (refusal x) ≡ verdict ws = sym (ap saidOf e) ∙ h in (rw (← v), rw (← v))
+  pub finish-refused : {x : Refusal} → r ≡ Refused x → (ofRefusal (refusalOf x) ≡ ofVerdict (verdict ws) (λ _. replied n 0)) × (old ≡ outputOf old ws (verdict ws))
+  finish-refused {x} e = let v : refused (refusalOf x) ≡ verdict ws = sym (ap saidOf e) ∙ h in (rw (← v), rw (← v))
 
-  pub finish-fits : {out : List ℕ} {s : Sheet} → r ≡ Fits s → out ≡ ws → (replied n 0 ≡ replyOf n (verdict ws)) × (out ≡ outputOf old ws (verdict ws))
+  pub finish-fits : {out : List ℕ} {s : Sheet} → r ≡ Fits s → out ≡ ws → (replied n 0 ≡ ofVerdict (verdict ws) (λ _. replied n 0)) × (out ≡ outputOf old ws (verdict ws))
   finish-fits {out} {s} e q = let v : fits (s .lifts) (s .rounds) ≡ verdict ws = sym (ap saidOf e) ∙ h in (rw (← v), rw (← v) q)
 
 -- ---- the lines
@@ -77,11 +69,8 @@ unfolding answer
 behind-words ws text l = ap (λ r. unlessFaulty r (unlessFaulty (ofLines (lifts ws) (lines text)) (verdict (renewed ws text)))) (words-legible l)
 
 module _ (ws text ns measures : List ℕ) (l : Legible ws) {r : Lines} (e : ns ≡ numbersOf (lifts ws)) (g : Tells ns (lines text) r measures) where
-  pub at-form : {i : ℕ} → r ≡ Form i → (ofRefusal (numbered 14 i) ≡ reply ws text) × (ws ≡ output ws text)
-  at-form {i} q = let t = rw (q, e) at g in let w = rw t at (behind-words ws text l) in (rw (← w), rw (← w))
-
-  pub at-lift : {i : ℕ} → r ≡ AboutLift i → (ofRefusal (numbered 15 i) ≡ reply ws text) × (ws ≡ output ws text)
-  at-lift {i} q = let t = rw (q, e) at g in let w = rw t at (behind-words ws text l) in (rw (← w), rw (← w))
+  pub at-line : {x : Refusal} → r ≡ FaultyLine x → (ofRefusal (refusalOf x) ≡ reply ws text) × (ws ≡ output ws text)
+  at-line {x} q = let t = rw (q, e) at g in let w = rw t at (behind-words ws text l) in (rw (← w), rw (← w))
 
   module _ {n : ℕ} (q : r ≡ All n) where
     all-taken : AllTaken ns (lines text) n measures
@@ -93,9 +82,9 @@ module _ (ws text ns measures : List ℕ) (l : Legible ws) {r : Lines} (e : ns �
     answered : verdict (sheetWith ws measures) ≡ answer ws text
     answered = ap verdict sheet-with ∙ (rw (rw e at (all-taken .sound)) at (behind-words ws text l))
 
-    pub at-end : {y : Reply} {out : List ℕ} → (y ≡ replyOf n (verdict (sheetWith ws measures))) × (out ≡ outputOf ws (sheetWith ws measures) (verdict (sheetWith ws measures)))
+    pub at-end : {y : Reply} {out : List ℕ} → (y ≡ ofVerdict (verdict (sheetWith ws measures)) (λ _. replied n 0)) × (out ≡ outputOf ws (sheetWith ws measures) (verdict (sheetWith ws measures)))
         → (y ≡ reply ws text) × (out ≡ output ws text)
-    at-end (a, b) = (a ∙ ap₂ replyOf (all-taken .many) answered, b ∙ ap₂ (outputOf ws) sheet-with answered)
+    at-end (a, b) = (a ∙ ap₂ (λ k v. ofVerdict v (λ _. replied k 0)) (all-taken .many) answered, b ∙ ap₂ (outputOf ws) sheet-with answered)
 
     pub end-long : length measures ≡ length (lifts ws)
     end-long = ap length (all-taken .filled) ∙ length-map ns (slot (lines text)) ∙ ap length e ∙ length-map (lifts ws) (λ l. l .number)
@@ -110,10 +99,10 @@ module _ (ws text ns measures : List ℕ) (l : Legible ws) {r : Lines} (e : ns �
 
 -- ---- the sheet lent
 
-module _ (ws text : List ℕ) {r : Judged} (h : toldOfWords r ≡ ofWords ws) where
-  pub at-word : {x : Refusal} → r ≡ Faulty x → (ofRefusal (refusal x) ≡ reply ws text) × (ws ≡ output ws text)
+module _ (ws text : List ℕ) {r : Judged} (h : readingOf r ≡ ofWords ws) where
+  pub at-word : {x : Refusal} → r ≡ Faulty x → (ofRefusal (refusalOf x) ≡ reply ws text) × (ws ≡ output ws text)
   unfolding answer
-  at-word {x} e = let v : faulty (refusal x) ≡ ofWords ws = sym (ap toldOfWords e) ∙ h in (rw (← v), rw (← v))
+  at-word {x} e = let v : faulty (refusalOf x) ≡ ofWords ws = sym (ap readingOf e) ∙ h in (rw (← v), rw (← v))
 
   pub at-legible : r ≡ Sound → Legible ws
-  at-legible e = legible-words (sym (sym (ap toldOfWords e) ∙ h))
+  at-legible e = legible-words (sym (sym (ap readingOf e) ∙ h))

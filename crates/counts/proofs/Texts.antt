@@ -11,13 +11,13 @@ use lib.Dec.{eqb}
 use lib.ListN.{List·getD-eq-default, length, getD, take, drop, drop-of-length-le}
 use lib.Seq.{drop-cons, drop-drop, getD-drop}
 use borrow.Author.Tests.{eq-eqb, ne-eqb, not-true}
-use Rattle.sheet.specs.declared.Found.{Found}
-use Rattle.sheet.specs.declared.Found.the-variants.{At, Nothing}
+use Rattle.tally.specs.declared.Found.{Found}
+use Rattle.tally.specs.declared.Found.the-variants.{At, Nothing}
 use Rattle.counts.specs.Text.{LF, CR, comma, ahead, endingCR, lines, before, behind, isDigit, allDigits, value, empty, isNumber, largestLift, largestCount, counted, malformed, entry}
 use Rattle.counts.specs.Scan.{span, leading, numberAt, line, extent, endingAt, lineAt}
-use Rattle.counts.specs.declared.Number.{Number}
-use Rattle.counts.specs.declared.Number.the-variants.{Is, Not}
-use Rattle.counts.specs.declared.Line.the-variants.{Entry as EntryLine, Malformed}
+use Rattle.counts.specs.declared.text.Number.{Number}
+use Rattle.counts.specs.declared.text.Number.the-variants.{Is, Not}
+use Rattle.counts.specs.declared.text.Line.the-variants.{Entry as EntryLine, Malformed}
 use Rattle.counts.proofs.Numbers.{digit-low}
 
 -- ---- the first line of a text

@@ -1,25 +1,25 @@
 -- The small sheets and texts, computed.
 use mathlib.Core.Path.{_≡_, refl}
 use mathlib.Core.Bool.{true}
-use Rattle.laws.specs.Same.{allRight}
-use Rattle.laws.specs.Sum.{totalBy}
+use Rattle.probability.specs.Table.{allRight}
+use Rattle.probability.specs.Sum.{totalBy}
 use Rattle.sheet.specs.Sheet.{lifts, written}
 use Rattle.sheet.specs.Reading.{fault, readFrom}
-use Rattle.sheet.specs.Rounds.{those, sends}
-use Rattle.sheet.specs.Refusal.{firstRound, ofRounds, verdict}
+use Rattle.tally.specs.Rounds.{those, sends}
+use Rattle.tally.specs.Verdict.{firstRound, ofRounds, verdict}
 use Rattle.counts.specs.Text.{lines, before, behind, allDigits, valueFrom, entry}
-use Rattle.laws.specs.Among.{among}
+use Rattle.probability.specs.Among.{among}
 use Rattle.counts.specs.Counts.{linesFrom, measureFor, answer}
-use Rattle.counts.specs.Worked.{right, lineCases, formCases, resultCases}
+use Rattle.counts.specs.Worked.{lineCases, formCases, resultCases}
 
-pub right-lines : allRight right lineCases ≡ true
+pub right-lines : allRight lineCases ≡ true
 unfolding totalBy lifts written fault readFrom those sends firstRound ofRounds verdict lines before behind allDigits valueFrom entry among linesFrom measureFor answer
 right-lines = refl
 
-pub right-forms : allRight right formCases ≡ true
+pub right-forms : allRight formCases ≡ true
 unfolding lifts fault readFrom lines before behind allDigits valueFrom entry among linesFrom answer
 right-forms = refl
 
-pub right-results : allRight right resultCases ≡ true
+pub right-results : allRight resultCases ≡ true
 unfolding totalBy lifts written fault readFrom those sends firstRound ofRounds verdict lines before behind allDigits valueFrom entry among linesFrom measureFor answer
 right-results = refl

@@ -5,14 +5,12 @@ use mathlib.Core.List.{List, [], _∷_, map}
 use mathlib.Core.Option.{Option, none, some}
 use lib.Dec.{eqb}
 use lib.ListN.{length}
-use Rattle.laws.specs.Among.{among}
+use Rattle.probability.specs.Among.{among}
 use Rattle.sheet.specs.Sheet.{Lift, lifts, sheetOf}
-use Rattle.sheet.specs.Reading.{numbered, Reading, faulty, sound, ofWords}
-use Rattle.sheet.specs.Refusal.{Verdict, refused, fits, unlessFaulty, verdict, refusal}
-use Rattle.sheet.specs.Reply.{Reply, replied, ofRefusal}
+use Rattle.reply.specs.Reply.{numbered, Reply, replied}
+use Rattle.sheet.specs.Reading.{Reading, faulty, sound, ofWords}
+use Rattle.tally.specs.Verdict.{Verdict, refused, fits, unlessFaulty, verdict, ofVerdict}
 use Rattle.counts.specs.Text.{lines, Entry, counted, malformed, entry}
-use Rattle.counts.specs.declared.Answer.{Answer}
-use Rattle.counts.specs.declared.Answer.the-variants.{Sheet, Form, Lift as AboutLift, Taken}
 
 -- ---- the lines one by one
 
@@ -74,28 +72,16 @@ answer sheet text = unlessFaulty (ofWords sheet) (unlessFaulty (ofLines (lifts s
 
 -- ---- the reply and the sheet at the end
 
--- "a call that chooses nothing and names no other answer replies 0, how many lines it took .., and 0 words read"
-abbrev pub replyOf : ℕ → Verdict → Reply
-replyOf n (refused x) = ofRefusal x
-replyOf n (fits a b) = replied n 0
-
 -- "Any refusal writes nothing."
 abbrev pub outputOf : List ℕ → List ℕ → Verdict → List ℕ
 outputOf before after (refused x) = before
 outputOf before after (fits a b) = after
 
--- the reply to a sheet and a text
+-- the reply to a sheet and a text: "a call that chooses nothing and names no other answer replies 0, how many lines it took .., and 0 words
+-- read"
 abbrev pub reply : List ℕ → List ℕ → Reply
-reply sheet text = replyOf (length (lines text)) (answer sheet text)
+reply sheet text = ofVerdict (answer sheet text) (λ _. replied (length (lines text)) 0)
 
 -- the sheet after the call
 abbrev pub output : List ℕ → List ℕ → List ℕ
 output sheet text = outputOf sheet (renewed sheet text) (answer sheet text)
-
--- ---- the code's answer
-
-abbrev pub told : Answer → Reply
-told (Sheet x) = ofRefusal (refusal x)
-told (Form i) = ofRefusal (numbered 14 i)
-told (AboutLift i) = ofRefusal (numbered 15 i)
-told (Taken n) = replied n 0

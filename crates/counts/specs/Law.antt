@@ -5,12 +5,11 @@ use mathlib.Core.Bool.{true}
 use mathlib.Core.List.{List, [], map}
 use lib.ListN.{length, getD}
 use Rattle.sheet.specs.Sheet.{Lift, lifts}
-use Rattle.sheet.specs.Rounds.{placeAt}
-use Rattle.sheet.specs.Refusal.{fits}
-use Rattle.sheet.specs.Law.{Fitting}
-use Rattle.sheet.specs.declared.Side.the-variants.{New}
+use Rattle.sheet.specs.Lift.{placeAt, New}
+use Rattle.tally.specs.Verdict.{fits}
+use Rattle.tally.specs.Law.{Fitting}
 use Rattle.counts.specs.Text.{lines, counted, entry}
-use Rattle.laws.specs.Among.{among}
+use Rattle.probability.specs.Among.{among}
 use Rattle.counts.specs.Counts.{numbersOf, hundreds, remeasured, measured, renewed, answer}
 
 -- a line that is taken, among all lines, into lifts of these numbers: it names one of them, whose new measure is its count and that of no

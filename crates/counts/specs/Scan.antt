@@ -7,19 +7,20 @@ use mathlib.Core.Option.{Option, none, some}
 use lib.Dec.{eqb, leb, ltb}
 use lib.ListN.{length, getD, take, drop}
 use Rattle.sheet.specs.Sheet.{mostLifts, newKind, placeOf, Lift, lifts, placeWord, sheetOf}
-use Rattle.sheet.specs.Reading.{numbered, faulty, sound}
-use Rattle.sheet.specs.declared.Found.{Found}
-use Rattle.sheet.specs.declared.Found.the-variants.{At, Nothing}
+use Rattle.sheet.specs.Reading.{faulty, sound}
+use Rattle.tally.specs.declared.Found.{Found}
+use Rattle.tally.specs.declared.Found.the-variants.{At, Nothing}
+use Rattle.reply.specs.Refusal.{refusalOf}
 use Rattle.counts.specs.Text.{LF, lines, isDigit, value, empty, isNumber, Entry, counted, malformed, entry}
-use Rattle.laws.specs.Among.{among}
+use Rattle.probability.specs.Among.{among}
 use Rattle.counts.specs.Counts.{linesFrom, measureFor, measuredBy}
-use Rattle.counts.specs.declared.Digits.{Digits}
-use Rattle.counts.specs.declared.Number.{Number}
-use Rattle.counts.specs.declared.Number.the-variants.{Is, Not}
-use Rattle.counts.specs.declared.Line.{Line}
-use Rattle.counts.specs.declared.Line.the-variants.{Entry as EntryLine, Malformed}
-use Rattle.counts.specs.declared.Lines.{Lines}
-use Rattle.counts.specs.declared.Lines.the-variants.{Form, Lift as AboutLift, All}
+use Rattle.counts.specs.declared.text.Digits.{Digits}
+use Rattle.counts.specs.declared.text.Number.{Number}
+use Rattle.counts.specs.declared.text.Number.the-variants.{Is, Not}
+use Rattle.counts.specs.declared.text.Line.{Line}
+use Rattle.counts.specs.declared.text.Line.the-variants.{Entry as EntryLine, Malformed}
+use Rattle.counts.specs.declared.lines.Lines.{Lines}
+use Rattle.counts.specs.declared.lines.Lines.the-variants.{Faulty, All}
 
 -- ---- numbers
 
@@ -109,8 +110,7 @@ pub record AllTaken (ns : List ℕ) (xs : List (List ℕ)) (n : ℕ) (measures :
 
 -- what the answer to the lines says
 abbrev pub Tells : List ℕ → List (List ℕ) → Lines → List ℕ → Type 0
-Tells ns xs (Form i) measures = linesFrom ns [] 1 xs ≡ faulty (numbered 14 i)
-Tells ns xs (AboutLift i) measures = linesFrom ns [] 1 xs ≡ faulty (numbered 15 i)
+Tells ns xs (Faulty x) measures = linesFrom ns [] 1 xs ≡ faulty (refusalOf x)
 Tells ns xs (All n) measures = AllTaken ns xs n measures
 
 -- ---- the sheet

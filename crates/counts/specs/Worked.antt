@@ -5,37 +5,28 @@ use Prim.Native.Char.{code}
 use Prim.Native.String.{String, [] as none, _∷_ as _▸_}
 use mathlib.Core.Bool.{Bool, true, false, _&&_}
 use mathlib.Core.List.{List, [], _∷_}
-use lib.Dec.{eqb}
-use Rattle.laws.specs.Same.{same}
+use Rattle.probability.specs.Table.{same}
 use Rattle.sheet.specs.Sheet.{sheetOf}
+use Rattle.reply.specs.Reply.{Reply, numbers, sameReply}
 use Rattle.sheet.specs.Worked.{lift, example}
 use Rattle.counts.specs.Counts.{reply, output}
-
--- a sheet and a text, the reply's number and what comes with it, and the sheet after the call
-pub record Case : Type 0 where
-  pub sheet : List ℕ
-  pub text : String
-  pub number : ℕ
-  pub second : ℕ
-  pub after : List ℕ
-
--- so many lines taken, and the sheet then
-abbrev taken : List ℕ → String → ℕ → List ℕ → Case
-taken ws t n us = record { sheet = ws; text = t; number = 0; second = n; after = us }
-
--- "Any refusal writes nothing."
-abbrev refused : List ℕ → String → ℕ → ℕ → Case
-refused ws t n k = record { sheet = ws; text = t; number = n; second = k; after = ws }
 
 -- the bytes of a text, one for each character
 abbrev bytes : String → List ℕ
 bytes none = []
 bytes (c ▸ s) = code c ∷ bytes s
 
-abbrev pub right : Case → Bool
-right c =
-    let r = reply (c .sheet) (bytes (c .text)) in
-    eqb (r .number) (c .number) && (eqb (r .second) (c .second) && (eqb (r .third) 0 && same (output (c .sheet) (bytes (c .text))) (c .after)))
+-- a sheet and a text, the reply, and the sheet after the call
+abbrev case : List ℕ → String → Reply → List ℕ → Bool
+case ws t r us = sameReply (reply ws (bytes t)) r && same (output ws (bytes t)) us
+
+-- so many lines taken, and the sheet then
+abbrev taken : List ℕ → String → ℕ → List ℕ → Bool
+taken ws t n us = case ws t (numbers 0 n 0) us
+
+-- "Any refusal writes nothing."
+abbrev refused : List ℕ → String → ℕ → ℕ → Bool
+refused ws t n place = case ws t (numbers n place 0) ws
 
 -- ---- the lines
 
@@ -47,7 +38,7 @@ changed a b c = 0x1000000B ∷ 0x20200002 ∷ a ∷ 0x1000000C ∷ 0x20200003 �
 abbrev highest : ℕ → List ℕ
 highest b = 0x1FFFFFFF ∷ 0x20600001 ∷ b ∷ 0x40000000 ∷ 0xF0000001 ∷ []
 
-abbrev pub lineCases : List Case
+abbrev pub lineCases : List Bool
 lineCases =
     -- "Lifts without a line keep theirs."
     taken example "" 0 example
@@ -94,12 +85,12 @@ otherForms =
     ∷ "11,0x64" ∷ "11,1e2" ∷ "11;100" ∷ "11,100.0" ∷ "11,/" ∷ "11,:" ∷ "11,100\0" ∷ "11,²" ∷ []
 
 -- each as the first line
-abbrev malformed : List String → List Case
+abbrev malformed : List String → List Bool
 malformed [] = []
 malformed (s ∷ ss) = refused example s 14 1 ∷ malformed ss
 
 -- and behind a line that is taken
-abbrev pub formCases : List Case
+abbrev pub formCases : List Bool
 formCases = refused example "12,100\n\n" 14 2 ∷ refused example "12,100\r\n11,x" 14 2 ∷ malformed otherForms
 
 -- ---- the sheet lent, and the result
@@ -123,7 +114,7 @@ unheld = sheetOf (lift 1 5 1 1 1 false ∷ [])
 abbrev three : List ℕ
 three = sheetOf (lift 1 1 1 6 1 true ∷ lift 2 2 1 6 1 true ∷ lift 3 3 1 6 1 true ∷ [])
 
-abbrev pub resultCases : List Case
+abbrev pub resultCases : List Bool
 resultCases =
     -- "after 1 to 6 for the sheet lent"
     refused [] "x" 1 0

@@ -7,8 +7,8 @@ use native.Mathlib.Omega.{arith}
 use lib.Arith.{digits-mod}
 use lib.Dec.{eqb}
 use borrow.Author.Tests.{lt-ltb, le-ltb}
-use Rattle.laws.specs.Sum.{Σ, indicator, count}
-use Rattle.laws.proofs.Sums.{over-ext, Σ-cut, Σ-const, Σ-periodic, count-one}
+use Rattle.probability.specs.Sum.{Σ, indicator, count}
+use Rattle.probability.proofs.Sums.{over-ext, Σ-cut, Σ-const, Σ-periodic, count-one}
 use Rattle.draw.specs.Draw.{K, drawFrom, drawAt, gave, ExactlyK}
 
 module _ (m b v : ℕ) where

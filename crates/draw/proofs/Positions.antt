@@ -6,7 +6,7 @@ use mathlib.Core.List.{List, [], _∷_}
 use native.Mathlib.Omega.{arith}
 use lib.Dec.{ltb}
 use lib.ListN.{length, drop, length-drop}
-use Rattle.laws.specs.Plan.{Plan, done, draw}
+use Rattle.probability.specs.Plan.{Plan, done, draw}
 use Rattle.draw.specs.Draw.{K, drawFrom, drawAt}
 use Rattle.draw.specs.Run.{Run, finished, short, drew, follow, run}
 use Rattle.draw.specs.declared.Drawn.{Drawn}

@@ -9,8 +9,8 @@ use native.Mathlib.Omega.{arith}
 use lib.ListN.{drop}
 use lib.Dec.{ltb}
 use borrow.Author.Tests.{ltb-true}
-use Rattle.laws.specs.Sum.{over}
-use Rattle.laws.specs.Plan.{Plan, done, draw, Every, Path, drew as step, paths}
+use Rattle.probability.specs.Sum.{over}
+use Rattle.probability.specs.Plan.{Plan, done, draw, Every, Path, drew as step, paths}
 use Rattle.draw.specs.Draw.{K, drawFrom, drawAt}
 use Rattle.draw.specs.Run.{Run, finished, short, drew, follow, run, FollowsAPath}
 use Rattle.draw.specs.declared.Drawn.{Drawn}

@@ -2,7 +2,7 @@
 use Prim.Native.Nat.{ℕ}
 use mathlib.Core.Path.{_≡_}
 use mathlib.Core.List.{List, [], _∷_, List·Memᴰ}
-use Rattle.laws.specs.Plan.{Plan, done, draw, Path, paths}
+use Rattle.probability.specs.Plan.{Plan, done, draw, Path, paths}
 use Rattle.draw.specs.Draw.{drawAt}
 use Rattle.draw.specs.declared.Drawn.{Drawn}
 use Rattle.draw.specs.declared.Drawn.the-variants.{Value, Short}

@@ -8,27 +8,17 @@ use Rattle.draw.specs.Draw.{largest, drawAt}
 use Rattle.draw.specs.declared.Drawn.{Drawn}
 use Rattle.draw.specs.declared.Drawn.the-variants.{Value, Short}
 
--- a bound, random words, a position, and what a draw finds
-pub record Case : Type 0 where
-  pub bound : ℕ
-  pub words : List ℕ
-  pub from : ℕ
-  pub drawn : Drawn
-
-abbrev case : ℕ → List ℕ → ℕ → Drawn → Case
-case b ws i d = record { bound = b; words = ws; from = i; drawn = d }
-
 abbrev pub sameDrawn : Drawn → Drawn → Bool
 sameDrawn (Value v n) (Value w m) = eqb v w && eqb n m
 sameDrawn (Value v n) Short = false
 sameDrawn Short (Value w m) = false
 sameDrawn Short Short = true
 
--- whether the definition gives the answer
-abbrev pub right : Case → Bool
-right c = sameDrawn (drawAt largest (c .words) (c .from) (c .bound)) (c .drawn)
+-- a bound, random words, a position, and what a draw finds
+abbrev case : ℕ → List ℕ → ℕ → Drawn → Bool
+case b ws i d = sameDrawn (drawAt largest ws i b) d
 
-abbrev pub cases : List Case
+abbrev pub cases : List Bool
 cases =
     -- "M4 Bound 3: word 2^64 − 1 passed over. M5 Word 2^64 − 2 gives 2."
     case 3 ((2 ^ 64 - 1) ∷ []) 0 Short

@@ -12,9 +12,8 @@ use Rattle.round.specs.declared.Held.{Held}
 use Rattle.round.specs.declared.Lift.{Lift}
 use Rattle.round.specs.declared.Selected.{Selected}
 use Rattle.round.specs.declared.Selected.the-variants.{At, Short as Ended}
-use Rattle.sheet.specs.Reading.{Numbered}
-use Rattle.sheet.specs.Refusal.{Verdict, refused, fits}
-use Rattle.sheet.specs.Reply.{Reply, numbers}
+use Rattle.reply.specs.Reply.{Numbered, Reply, numbers}
+use Rattle.tally.specs.Verdict.{Verdict, refused, fits}
 use Rattle.exports.specs.Reply.{Replied, Chose, Answered}
 
 pub replied-value : {d : Drawn} {v n x y : ℕ} → Value v n ≡ d → Replied d true x v y n

@@ -11,7 +11,7 @@ use Rattle.round.specs.declared.Held.{Held}
 use Rattle.round.specs.declared.Held.the-variants.{Neither, Single, Both}
 use Rattle.round.specs.declared.Selected.{Selected}
 use Rattle.round.specs.declared.Selected.the-variants.{At, Short as Ended}
-use Rattle.sheet.specs.Refusal.{Verdict, refused, fits}
+use Rattle.tally.specs.Verdict.{Verdict, refused, fits}
 
 -- whether there is a value
 abbrev pub isValue : Drawn → Bool

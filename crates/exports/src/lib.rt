@@ -4,17 +4,19 @@ ghost use lib.ListN.{length};
 ghost use Rattle.draw.specs.Draw.{largest, drawAt};
 ghost use Rattle.round.specs.Choice.{selected};
 ghost use Rattle.round.specs.Rows.{lifts, Callable};
-ghost use Rattle.sheet.specs.Refusal.{verdict};
-ghost use Rattle.sheet.specs.Reply.{numbers};
+ghost use Rattle.tally.specs.Verdict.{verdict};
+ghost use Rattle.reply.specs.Reply.{numbers};
+ghost use Rattle.reply.specs.Refusal.{replyOf};
 ghost use Rattle.counts.specs.Counts.{reply as countsReply, output as countsOutput};
 ghost use Rattle.selection.specs.Choice.{reply, output};
 ghost use Rattle.carry.specs.Reply.{replyNext, outputNext, lentSheet};
 ghost use Rattle.exports.specs.Reply.{Replied, donorsOf, heldOf, Chose, Answered};
 use draw::Drawn;
+use reply::Answer;
 use round::Donors;
 use round::Held;
 use round::Selected;
-use sheet::Checked;
+use tally::Checked;
 
 // `draw::draw_from`: true, the value and the next position written; or false, nothing written, where the words end. A bound of 0 has no value, so every word is passed over.
 #[no_mangle]
@@ -105,7 +107,7 @@ pub extern "C" fn jengpilo_round_select(
 pub extern "C" fn jengpilo_sheet_check(sheet: &[u32], place: &mut usize, rounds: &mut usize) -> u32
     ensures { λ r. ⌜ Answered (verdict (now (sheet .entry))) r (now (place .exit)) (now (rounds .entry)) (now (rounds .exit)) ⌝ }
 {
-    let checked = sheet::check(sheet);
+    let checked = tally::check(sheet);
     match checked {
         Checked::Refused(x) => {
             *place = x.place();
@@ -117,6 +119,15 @@ pub extern "C" fn jengpilo_sheet_check(sheet: &[u32], place: &mut usize, rounds:
             0
         }
     }
+}
+
+// The reply that an answer stands for: its number, the other two written.
+fn write_reply(answer: Answer, second: &mut usize, third: &mut usize) -> u32
+    ensures { λ r. ⌜ numbers r (now (second .exit)) (now (third .exit)) ≡ replyOf answer ⌝ }
+{
+    *second = answer.second();
+    *third = answer.third();
+    answer.number()
 }
 
 // `panel::choose`: the document's number and place, and 0 words read; or 0, how many choices and how many words were read.
@@ -133,9 +144,7 @@ pub extern "C" fn jengpilo_panel_choose(
     ensures written { λ _. ⌜ now (out .exit) ≡ output (now (sheet .entry)) (now (words .entry)) start (now (out .entry)) ⌝ }
 {
     let answer = panel::choose(sheet, words, start, out);
-    *second = answer.second();
-    *third = answer.third();
-    answer.number()
+    write_reply(answer, second, third)
 }
 
 // `panel::choose_next`: as `jengpilo_panel_choose`, with next quarter's sheet written to `next`.
@@ -154,9 +163,7 @@ pub extern "C" fn jengpilo_panel_choose_next(
     ensures carried { λ _. ⌜ now (next .exit) ≡ lentSheet (now (sheet .entry)) (now (words .entry)) start (length (now (out .entry))) (now (next .entry)) ⌝ }
 {
     let answer = panel::choose_next(sheet, words, start, out, next);
-    *second = answer.second();
-    *third = answer.third();
-    answer.number()
+    write_reply(answer, second, third)
 }
 
 // `counts::take`: the document's number and place, and 0 words read; or 0, how many lines were taken, and 0.
@@ -171,7 +178,5 @@ pub extern "C" fn jengpilo_counts_take(
     ensures written { λ _. ⌜ now (sheet .exit) ≡ countsOutput (now (sheet .entry)) (now (text .entry)) ⌝ }
 {
     let answer = counts::take(sheet, text);
-    *second = answer.second();
-    *third = answer.third();
-    answer.number()
+    write_reply(answer, second, third)
 }

@@ -8,19 +8,19 @@ use lib.Dec.{ltb}
 use lib.ListN.{length}
 use borrow.Author.Tests.{ne-eqb, ltb-false, lt-ltb, le-ltb}
 use Rattle.sheet.specs.Sheet.{Lift, lifts}
-use Rattle.sheet.specs.Reading.{Numbered, numbered}
-use Rattle.sheet.specs.Rounds.{inUse}
-use Rattle.sheet.specs.Law.{Fit}
-use Rattle.sheet.specs.Refusal.{refused, fits, verdict}
-use Rattle.sheet.specs.Reply.{Reply, replied, ofRefusal, unlessRefused}
-use Rattle.sheet.proofs.Verdicts.{decided}
-use Rattle.sheet.specs.declared.Side.the-variants.{New}
+use Rattle.reply.specs.Reply.{Numbered, numbered, Reply, replied, ofRefusal, unlessRefused}
+use Rattle.tally.specs.Rounds.{inUse}
+use Rattle.tally.specs.Law.{Fit}
+use Rattle.tally.specs.Verdict.{refused, fits, verdict}
+use Rattle.tally.proofs.Verdicts.{decided}
+use Rattle.sheet.specs.Lift.{New}
 use Rattle.selection.specs.Choice.{Choice, Panel, chosen, short, panel, ofPanel, unlessLacking, ofLent, reply, written, writtenOf, output}
 use Rattle.selection.proofs.Steps.{Steps, steps, steps-count, steps-between}
 use Rattle.selection.proofs.Choices.{panel-rises}
-use Rattle.panel.specs.Choosing.{Gathers, Picked, pairs, withPairs, PairsFit, told, Answers}
+use Rattle.panel.specs.Choosing.{Gathers, Picked, pairs, withPairs, PairsFit, Answers}
+use Rattle.reply.specs.Refusal.{replyOf}
 use Rattle.panel.specs.declared.Picks.{Picks}
-use Rattle.panel.specs.declared.Answer.{Answer}
+use Rattle.reply.specs.declared.Answer.{Answer}
 use Rattle.panel.proofs.Tabled.{tabled-each, pairs-tabled, length-written, written-behind}
 
 -- ---- the choices gathered
@@ -131,7 +131,7 @@ module _ (n words start room : ℕ) where
 -- where the lists that were lent suffice, both are the panel's
 pub through : (ls : List Lift) (ws : List ℕ) (start : ℕ) (out : List ℕ) {n : ℕ} → n ≡ length (inUse New ls) → (start ≤ length ws) × (2 * n ≤ length out)
     → (p : Picks) → Picked (panel ls ws start) p → Fit ls → {r : Answer} {out′ : List ℕ} → Answers p n start r out out′
-    → (told r ≡ ofLent ls (length (inUse New ls)) ws start (length out))
+    → (replyOf r ≡ ofLent ls (length (inUse New ls)) ws start (length out))
     × (out′ ≡ unlessRefused (ofLent ls (length (inUse New ls)) ws start (length out)) out (writtenOf (panel ls ws start) out))
 through ls ws start out q b p d f s =
     let x = panel ls ws start in

@@ -8,14 +8,14 @@ use native.Mathlib.Omega.{arith}
 use lib.Dec.{eqb, ltb}
 use lib.ListN.{length, getD, set, replicate, length-set}
 use borrow.Author.Tests.{eqb-true, eqb-false, eq-eqb, ne-eqb, lt-ltb}
-use Rattle.laws.specs.Among.{among}
-use Rattle.laws.specs.Sum.{totalBy}
-use Rattle.laws.proofs.Lists.{All}
+use Rattle.probability.specs.Among.{among}
+use Rattle.probability.specs.Sum.{totalBy}
+use Rattle.probability.proofs.Lists.{All}
 use Rattle.sheet.specs.Sheet.{mostRounds, Lift}
-use Rattle.sheet.specs.Rounds.{named, inUse}
-use Rattle.sheet.specs.Law.{Fit}
-use Rattle.sheet.specs.declared.Side.the-variants.{New}
-use Rattle.sheet.proofs.Those.{those-has}
+use Rattle.tally.specs.Rounds.{named, inUse}
+use Rattle.tally.specs.Law.{Fit}
+use Rattle.sheet.specs.Lift.{New}
+use Rattle.tally.proofs.Those.{those-has}
 use Rattle.selection.specs.Choice.{liftAt, Choice, byRound}
 use Rattle.selection.proofs.Held.{proper}
 use Rattle.selection.proofs.Naming.{same}

@@ -6,7 +6,7 @@ use mathlib.Core.List.{List, [], _∷_, _++_, append-assoc, append-nil}
 use native.Mathlib.Omega.{arith}
 use lib.Dec.{ltb}
 use lib.ListN.{getD, set, replicate}
-use Rattle.laws.specs.Pieces.{pieces}
+use Rattle.probability.specs.Pieces.{pieces}
 use Rattle.draw.specs.Draw.{largest}
 use Rattle.draw.specs.Run.{Run, finished, short as ended, run}
 use Rattle.round.specs.Choice.{Selection, answer, selected}
@@ -14,15 +14,15 @@ use Rattle.round.specs.Rows.{lifts as liftsOfRows, rowLength}
 use Rattle.round.specs.declared.Donors.{Donors}
 use Rattle.round.specs.declared.Held.{Held}
 use Rattle.sheet.specs.Sheet.{mostRounds, Lift}
-use Rattle.sheet.specs.Rounds.{named}
-use Rattle.sheet.specs.declared.Side.the-variants.{New}
+use Rattle.tally.specs.Rounds.{named}
+use Rattle.sheet.specs.Lift.{New}
 use Rattle.rows.specs.declared.Layout.{Layout}
-use Rattle.sheet.proofs.Those.{from, from-step, from-none}
+use Rattle.tally.proofs.Those.{from, from-step, from-none}
 use Rattle.selection.specs.Choice.{heldIn, planOf, Choice, Panel, chosen, short, preceded, panelFrom, panel, byRound}
 use Rattle.selection.proofs.Steps.{made}
 use Rattle.panel.specs.Choosing.{chosenOf, stepOf, Picked}
-use Rattle.panel.specs.declared.Step.{Step}
-use Rattle.panel.specs.declared.Step.the-variants.{Passed, Chosen, Short}
+use Rattle.panel.specs.declared.select.Step.{Step}
+use Rattle.panel.specs.declared.select.Step.the-variants.{Passed, Chosen, Short}
 use Rattle.panel.specs.declared.Picks.{Picks}
 use Rattle.panel.proofs.Rounds.{Lent, partOf, donorsIn, marksIn, number-is, step-passed, step-used}
 

@@ -6,20 +6,20 @@ use native.Mathlib.Omega.{arith}
 use lib.ListN.{length}
 use borrow.Author.Tests.{lt-ltb, le-ltb}
 use Rattle.sheet.specs.Sheet.{Lift, lifts, sheetOf}
-use Rattle.sheet.specs.Reading.{Numbered, numbered}
-use Rattle.sheet.specs.Rounds.{inUse}
-use Rattle.sheet.specs.Refusal.{refused, fits, verdict}
-use Rattle.sheet.specs.Reply.{Reply, ofRefusal, onto, unlessRefused}
-use Rattle.sheet.specs.Law.{Fit}
-use Rattle.sheet.specs.declared.Side.the-variants.{New}
-use Rattle.sheet.proofs.Verdicts.{decided}
+use Rattle.reply.specs.Reply.{Numbered, numbered, Reply, ofRefusal, onto, unlessRefused}
+use Rattle.tally.specs.Rounds.{inUse}
+use Rattle.tally.specs.Verdict.{refused, fits, verdict}
+use Rattle.tally.specs.Law.{Fit}
+use Rattle.sheet.specs.Lift.{New}
+use Rattle.tally.proofs.Verdicts.{decided}
 use Rattle.selection.specs.Choice.{Panel, chosen, short, panel, ofPanel, writtenOf}
 use Rattle.carry.specs.Next.{remaining, nextSheet, wordsNeeded}
 use Rattle.carry.specs.Reply.{ofLentNext, replyNext, outputNext, carriedTo, lentSheet}
 use Rattle.carry.proofs.Carrying.{carries}
-use Rattle.panel.specs.Choosing.{Picked, told, Answers, sheetBy, CarriesOn}
+use Rattle.panel.specs.Choosing.{Picked, Answers, sheetBy, CarriesOn}
+use Rattle.reply.specs.Refusal.{replyOf}
 use Rattle.panel.specs.declared.Picks.{Picks}
-use Rattle.panel.specs.declared.Answer.{Answer}
+use Rattle.reply.specs.declared.Answer.{Answer}
 use Rattle.selection.proofs.Choices.{panel-rises}
 use Rattle.panel.proofs.Answers.{Done, done, ended, left, left-panel, enough}
 use Rattle.panel.proofs.Carried.{table-next}
@@ -61,7 +61,7 @@ module _ (ls : List Lift) (ws : List ℕ) (start : ℕ) (out next : List ℕ) (m
 
   pub through-next : 3 * m + n + 1 ≤ length next → (p : Picks) → Picked (panel ls ws start) p → Fit ls → {r : Answer} {out′ next′ : List ℕ}
       → Answers p n start r out out′ → CarriesOn p ls next next′
-      → (told r ≡ ofLentNext ls n ws start (length out) (length next))
+      → (replyOf r ≡ ofLentNext ls n ws start (length out) (length next))
       × ((out′ ≡ unlessRefused (ofLentNext ls n ws start (length out) (length next)) out (writtenOf (panel ls ws start) out))
       × (next′ ≡ unlessRefused (ofLentNext ls n ws start (length out) (length next)) next (carriedTo (panel ls ws start) ls next)))
   through-next h p d f s q =

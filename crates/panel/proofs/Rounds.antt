@@ -10,10 +10,10 @@ use lib.Dec.{eqb, ltb}
 use lib.ListN.{length, getD, take, drop, length-drop}
 use lib.Seq.{length-take-le}
 use borrow.Author.Tests.{eq-eqb, ne-eqb, eqb-true, ltb-true, ltb-false, lt-ltb, le-ltb}
-use Rattle.laws.specs.Sum.{indicator}
-use Rattle.laws.specs.Initial.{elsewhere}
-use Rattle.laws.specs.Pieces.{pieces}
-use Rattle.laws.proofs.Pieces.{pieces-part}
+use Rattle.probability.specs.Sum.{indicator}
+use Rattle.probability.specs.Initial.{elsewhere}
+use Rattle.probability.specs.Pieces.{pieces}
+use Rattle.probability.proofs.Pieces.{pieces-part}
 use Rattle.draw.specs.Draw.{largest}
 use Rattle.draw.specs.Run.{run}
 use Rattle.round.specs.Round.{S, U}
@@ -27,14 +27,14 @@ use Rattle.round.specs.declared.Lift.{Lift as RoundLift}
 use Rattle.round.specs.Rows.{liftOf, lifts as liftsOfRows, Callable, rowLength, HasSums}
 use Rattle.round.specs.declared.Sums.{Sums}
 use Rattle.sheet.specs.Sheet.{mostLifts, mostRounds, Lift}
-use Rattle.sheet.specs.Rounds.{named, sumOf, sends, donors, donorNumber, ofRound, heldAt}
-use Rattle.sheet.specs.Tables.{table}
+use Rattle.tally.specs.Rounds.{named, sumOf, sends, donors, donorNumber, ofRound, heldAt}
+use Rattle.tally.specs.Tables.{table}
 use Rattle.rows.specs.SetBits.{noBit}
 use Rattle.rows.specs.Rows.{below, rowOf, placeIn, Laid}
-use Rattle.sheet.specs.Law.{Fit}
-use Rattle.sheet.specs.declared.Side.the-variants.{Old, New}
+use Rattle.tally.specs.Law.{Fit}
+use Rattle.sheet.specs.Lift.{Old, New}
 use Rattle.rows.specs.declared.Layout.{Layout}
-use Rattle.sheet.proofs.Tables.{getD-tabulate}
+use Rattle.tally.proofs.Tables.{getD-tabulate}
 use Rattle.rows.proofs.Placing.{below-le, below-suc, named-length}
 use Rattle.selection.specs.Choice.{withSums, donorsOf, inRound, liftsOf, heldAmong, heldIn, planOf, nobody, liftAt}
 use Rattle.selection.proofs.Held.{held-exactly}
@@ -42,7 +42,7 @@ use Rattle.selection.proofs.Sums.{U-by-number}
 use Rattle.selection.proofs.RoundsFit.{Senders, none, one, two, senders, S-round, round-fits, round-bounded, round-stands}
 use Rattle.selection.proofs.Selections.{sends-named}
 use Rattle.panel.specs.Choosing.{present, chosenOf, stepOf}
-use Rattle.panel.specs.declared.Step.the-variants.{Passed}
+use Rattle.panel.specs.declared.select.Step.the-variants.{Passed}
 
 -- ---- the lifts of rows
 

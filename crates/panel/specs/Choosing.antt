@@ -5,28 +5,26 @@ use mathlib.Core.Bool.{cond}
 use mathlib.Core.List.{List, [], _∷_, _++_}
 use lib.Dec.{eqb, ltb}
 use lib.ListN.{length, getD, replicate}
-use Rattle.laws.specs.Initial.{Initial, here, elsewhere}
-use Rattle.laws.specs.Pieces.{pieces}
+use Rattle.probability.specs.Initial.{Initial, here, elsewhere}
+use Rattle.probability.specs.Pieces.{pieces}
 use Rattle.round.specs.Rows.{rowLength}
 use Rattle.round.specs.declared.Selected.{Selected}
 use Rattle.round.specs.declared.Selected.the-variants.{At as AtPlace, Short}
 use Rattle.sheet.specs.Sheet.{mostRounds, Lift, sheetOf}
-use Rattle.sheet.specs.Reading.{numbered}
-use Rattle.sheet.specs.Rounds.{inUse}
-use Rattle.sheet.specs.Refusal.{refusal}
-use Rattle.sheet.specs.Law.{Fit}
-use Rattle.sheet.specs.Reply.{Reply, ofRefusal, replied, onto}
-use Rattle.sheet.specs.declared.Side.the-variants.{New}
-use Rattle.sheet.specs.declared.Found.{Found}
-use Rattle.sheet.specs.declared.Found.the-variants.{At, Nothing}
+use Rattle.reply.specs.Reply.{onto}
+use Rattle.tally.specs.Rounds.{inUse}
+use Rattle.reply.specs.Refusal.{replyOf}
+use Rattle.reply.specs.declared.Answer.{Answer}
+use Rattle.tally.specs.Law.{Fit}
+use Rattle.sheet.specs.Lift.{New}
+use Rattle.tally.specs.declared.Found.{Found}
+use Rattle.tally.specs.declared.Found.the-variants.{At, Nothing}
 use Rattle.selection.specs.Choice.{Choice, Panel, chosen, short, panel, byRound, ofPanel, pair, writtenOf}
 use Rattle.carry.specs.Next.{carriedOn, inTable}
 use Rattle.carry.specs.Reply.{carriedTo}
-use Rattle.panel.specs.declared.Step.{Step}
-use Rattle.panel.specs.declared.Step.the-variants.{Passed, Chosen as ChosenLift, Short as Ended}
+use Rattle.panel.specs.declared.select.Step.{Step}
+use Rattle.panel.specs.declared.select.Step.the-variants.{Passed, Chosen as ChosenLift, Short as Ended}
 use Rattle.panel.specs.declared.Picks.{Picks}
-use Rattle.panel.specs.declared.Answer.{Answer}
-use Rattle.panel.specs.declared.Answer.the-variants.{Sheet, Start, Output, Next, Words, Chosen}
 
 -- ---- one round
 
@@ -84,19 +82,10 @@ pub record PairsFit (ns os : List ℕ) (room : ℕ) : Type 0 where
 
 -- ---- the answer
 
--- what an answer replies: the document's number and values for each case
-abbrev pub told : Answer → Reply
-told (Sheet x) = ofRefusal (refusal x)
-told (Start at) = ofRefusal (numbered 11 at)
-told (Output need) = ofRefusal (numbered 12 need)
-told (Next need) = ofRefusal (numbered 17 need)
-told (Words r) = ofRefusal (numbered 13 r)
-told (Chosen n k) = replied n k
-
 -- an answer to the choices of so many rounds, and the output before and after it: the reply and the output of every panel that has these
 -- choices, of lifts that fit
 pub record Answers (p : Picks) (rounds start : ℕ) (r : Answer) (before after : List ℕ) : Type 0 where
-  pub replies : (ls : List Lift) (ws : List ℕ) → Picked (panel ls ws start) p → rounds ≡ length (inUse New ls) → told r ≡ ofPanel start (panel ls ws start)
+  pub replies : (ls : List Lift) (ws : List ℕ) → Picked (panel ls ws start) p → rounds ≡ length (inUse New ls) → replyOf r ≡ ofPanel start (panel ls ws start)
   pub writes : (ls : List Lift) (ws : List ℕ) → Picked (panel ls ws start) p → Fit ls → after ≡ writtenOf (panel ls ws start) before
 
 -- ---- next quarter's sheet

@@ -7,9 +7,9 @@ use native.Mathlib.Numerals.{add-one}
 use native.Mathlib.Omega.{arith}
 use lib.ListN.{length, getD, take, drop, drop-of-length-le}
 use lib.Seq.{drop-cons}
-use Rattle.laws.specs.Pieces.{cut, pieces}
-use Rattle.laws.proofs.Lists.{All}
-use Rattle.laws.proofs.Pieces.{length-pieces, piece-element, pieces-more}
+use Rattle.probability.specs.Pieces.{cut, pieces}
+use Rattle.probability.proofs.Lists.{All}
+use Rattle.probability.proofs.Pieces.{length-pieces, piece-element, pieces-more}
 use Rattle.sheet.specs.Sheet.{payload, placeOf}
 use Rattle.sheet.proofs.Trips.{payload-word}
 use Rattle.selection.specs.Choice.{Choice, roundWord, pairOf, written}

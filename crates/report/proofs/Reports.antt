@@ -9,10 +9,9 @@ use lib.ListN.{length, take}
 use lib.Seq.{take-take}
 use borrow.Author.Tests.{eq-eqb, ne-eqb, lt-ltb, le-ltb, eqb-true, eqb-false, ltb-false}
 use Rattle.sheet.specs.Sheet.{mostRounds, longest, lifts}
-use Rattle.sheet.specs.Reading.{numbered}
-use Rattle.sheet.specs.Rounds.{inUse}
-use Rattle.sheet.specs.Reply.{Reply, numbers, replied}
-use Rattle.sheet.specs.declared.Side.the-variants.{New}
+use Rattle.reply.specs.Reply.{numbered, Reply, numbers, replied}
+use Rattle.tally.specs.Rounds.{inUse}
+use Rattle.sheet.specs.Lift.{New}
 use Rattle.selection.specs.Choice.{written, reply, output}
 use Rattle.selection.proofs.Replies.{ran}
 use Rattle.selection.proofs.Steps.{steps, steps-count, steps-between}

@@ -4,9 +4,9 @@ use mathlib.Core.Path.{_≡_, refl, ap, _∙_}
 use mathlib.Core.List.{List, [], _∷_, _++_, List·Memᴰ·head, List·Memᴰ·tail}
 use native.Mathlib.Omega.{arith}
 use lib.ListN.{length, length-append}
-use Rattle.laws.proofs.Lists.{All}
+use Rattle.probability.proofs.Lists.{All}
 use Rattle.sheet.specs.Sheet.{mostRounds}
-use Rattle.sheet.specs.Reading.{numbered}
+use Rattle.reply.specs.Reply.{numbered}
 use Rattle.selection.specs.Choice.{Choice}
 use Rattle.selection.proofs.Choices.{Sound}
 use Rattle.report.specs.Report.{mostWords, decimal, field, space, LF, line, lines, wordsLabel, wordsLine, refusedLabel, refusedLine, textRoom}

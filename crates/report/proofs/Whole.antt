@@ -9,9 +9,8 @@ use lib.ListN.{length, take}
 use lib.Seq.{take-length}
 use borrow.Author.Tests.{eq-eqb, ne-eqb, lt-ltb, ltb-true}
 use Rattle.sheet.specs.Sheet.{mostRounds, longest}
-use Rattle.sheet.specs.Reading.{numbered}
-use Rattle.sheet.specs.Refusal.{verdict}
-use Rattle.sheet.specs.Reply.{ofRefusal}
+use Rattle.reply.specs.Reply.{numbered, ofRefusal}
+use Rattle.tally.specs.Verdict.{verdict}
 use Rattle.selection.specs.Choice.{reply}
 use Rattle.report.specs.Report.{sheetWords, randomWords, refusedLine, textOf, report, WholeTheorem}
 use Rattle.report.proofs.Words.{length-words}

@@ -10,8 +10,8 @@ use lib.Dec.{leb}
 use lib.ListN.{length, getD, set, take, drop, length-append, length-set, length-take, length-map, drop-of-length-le, List·getD-map}
 use lib.Seq.{drop-cons, length-take-le, take-all, take-at, take-suc, take-suc-set, take-take}
 use borrow.Author.Tests.{leb-true, leb-false}
-use Rattle.laws.specs.Pieces.{pieces}
-use Rattle.laws.proofs.Pieces.{length-pieces, piece-length, piece-lent, pieces-first}
+use Rattle.probability.specs.Pieces.{pieces}
+use Rattle.probability.proofs.Pieces.{length-pieces, piece-length, piece-lent, pieces-first}
 use Rattle.report.specs.Report.{littleEndian, wordsOf, mostWords, randomWords, CountTheorem, Decoded}
 
 -- ---- one word

@@ -1,23 +1,23 @@
 -- The table of files, computed. Assumes nothing.
 use mathlib.Core.Path.{_≡_, refl}
 use mathlib.Core.Bool.{true}
-use Rattle.laws.specs.Same.{allRight}
-use Rattle.laws.specs.Interval.{pick}
-use Rattle.laws.specs.Pieces.{cut}
-use Rattle.laws.specs.Plan.{after}
-use Rattle.laws.specs.Sum.{total, totalBy}
+use Rattle.probability.specs.Table.{allRight}
+use Rattle.probability.specs.Interval.{pick}
+use Rattle.probability.specs.Pieces.{cut}
+use Rattle.probability.specs.Plan.{after}
+use Rattle.probability.specs.Sum.{total, totalBy}
 use Rattle.draw.specs.Draw.{drawFrom}
 use Rattle.draw.specs.Run.{run}
 use Rattle.round.specs.Round.{S, U, D, oldWeight, newWeight, weights, G}
 use Rattle.round.specs.Choice.{drawPlace, firstOdds, preliminaryBy, stayOr, keyfitz, select, plan, outcome}
 use Rattle.sheet.specs.Sheet.{lifts}
 use Rattle.sheet.specs.Reading.{fault, readFrom}
-use Rattle.sheet.specs.Refusal.{firstRound, ofRounds, verdict}
-use Rattle.sheet.specs.Rounds.{those, sends, ofRound, heldAt}
+use Rattle.tally.specs.Verdict.{firstRound, ofRounds, verdict}
+use Rattle.tally.specs.Rounds.{those, sends, ofRound, heldAt}
 use Rattle.selection.specs.Choice.{donorsOf, liftsOf, heldIn, planOf, liftAt, panelFrom, reply}
 use Rattle.report.specs.Report.{littleEndian, wordsOf, digits, decimal, field, line, lines, wordsLine, refusedLine, textOf, report}
-use Rattle.report.specs.Worked.{cases, right}
+use Rattle.report.specs.Worked.{cases}
 
-pub all-right : allRight right cases ≡ true
+pub all-right : allRight cases ≡ true
 unfolding pick cut after total totalBy drawFrom run S U D oldWeight newWeight weights G drawPlace firstOdds preliminaryBy stayOr keyfitz select plan outcome lifts fault readFrom those sends ofRound firstRound ofRounds verdict donorsOf liftsOf heldAt heldIn planOf liftAt panelFrom reply littleEndian wordsOf digits decimal field line lines wordsLine refusedLine textOf report
 all-right = refl

@@ -5,10 +5,9 @@ use mathlib.Core.Bool.{cond}
 use mathlib.Core.List.{List, [], _∷_, _++_, map, flatMap}
 use lib.Dec.{eqb, ltb}
 use lib.ListN.{length, getD, take, drop}
-use Rattle.laws.specs.Pieces.{pieces}
+use Rattle.probability.specs.Pieces.{pieces}
 use Rattle.sheet.specs.Sheet.{mostRounds, longest, payload, placeOf, lifts}
-use Rattle.sheet.specs.Reading.{Numbered, numbered}
-use Rattle.sheet.specs.Reply.{Reply}
+use Rattle.reply.specs.Reply.{Numbered, numbered, Reply}
 use Rattle.selection.specs.Choice.{Choice, Panel, chosen, short, panel, reply}
 
 -- ---- the files

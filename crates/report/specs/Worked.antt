@@ -4,28 +4,17 @@ use Prim.Native.Nat.{ℕ, zero, suc, _/_, _%_}
 use mathlib.Core.Bool.{Bool}
 use mathlib.Core.List.{List, [], _∷_, _++_}
 use lib.ListN.{length}
-use Rattle.laws.specs.Same.{same}
+use Rattle.probability.specs.Table.{same}
 use Rattle.sheet.specs.Worked.{example}
 use Rattle.report.specs.Report.{report}
 
--- what is kept of the sheet's bytes, how many it has, the bytes of the words, and the text
-pub record Case : Type 0 where
-  pub sheet : List ℕ
-  pub size : ℕ
-  pub words : List ℕ
-  pub text : List ℕ
+-- a sheet that is kept whole and the words, and the text
+abbrev case : List ℕ → List ℕ → List ℕ → Bool
+case sheet words text = same (report sheet (length sheet) words) text
 
--- a sheet that is kept whole
-abbrev case : List ℕ → List ℕ → List ℕ → Case
-case sheet words text = record { sheet = sheet; size = length sheet; words = words; text = text }
-
--- a sheet of so many bytes, of which its length alone matters
-abbrev long : ℕ → List ℕ → Case
-long size text = record { sheet = []; size = size; words = []; text = text }
-
--- whether the definitions give the text
-abbrev pub right : Case → Bool
-right c = same (report (c .sheet) (c .size) (c .words)) (c .text)
+-- a sheet of so many bytes, of which its length alone matters, and the text
+abbrev long : ℕ → List ℕ → Bool
+long size text = same (report [] size []) text
 
 -- the bytes of a number, the lowest first
 abbrev bytes : ℕ → ℕ → List ℕ
@@ -49,7 +38,7 @@ words n = 119 ∷ 111 ∷ 114 ∷ 100 ∷ 115 ∷ 32 ∷ n ++ (10 ∷ [])
 abbrev refused : List ℕ → List ℕ
 refused n = 114 ∷ 101 ∷ 102 ∷ 117 ∷ 115 ∷ 101 ∷ 100 ∷ 32 ∷ n ++ (10 ∷ [])
 
-abbrev pub cases : List Case
+abbrev pub cases : List Bool
 cases =
     -- "chance words 10 and 0, prints 1 11 2, words 2"
     case exampleFile (file 8 (10 ∷ 0 ∷ [])) (49 ∷ 32 ∷ 49 ∷ 49 ∷ 32 ∷ 50 ∷ 10 ∷ words (50 ∷ []))

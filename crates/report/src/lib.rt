@@ -5,10 +5,10 @@ ghost use mathlib.Core.List.{[], _∷_, _++_};
 ghost use Prim.Native.Nat.{_+_, _*_, _/_, _^_, _≤_, _<_, min};
 ghost use lib.ListN.{length, take};
 ghost use Rattle.sheet.specs.Sheet.{longest};
-ghost use Rattle.sheet.specs.Reading.{numbered};
-ghost use Rattle.panel.specs.Choosing.{told};
+ghost use Rattle.reply.specs.Reply.{numbered};
+ghost use Rattle.reply.specs.Refusal.{replyOf};
 ghost use Rattle.report.specs.Report.{littleEndian, wordsOf, mostWords, sheetWords, randomWords, decimal, field, line as lineOf, pairLines, wordsLine, refusedLine, textOf, report as reportOf, printedWords, textRoom, Ready, Decoded, Appended};
-use panel::Answer;
+use reply::Answer;
 use sheet::Sheet;
 
 // How many words of the file of random words are read.
@@ -201,9 +201,9 @@ fn put_refusal(text: &mut [u8], from: usize, number: u64, place: u64) -> usize
 
 // The text of an answer and the output words with it.
 fn put_answer(text: &mut [u8], answer: Answer, out: &[u32]) -> usize
-    requires { ⌜ Ready (told answer) (now out) ⌝ }
+    requires { ⌜ Ready (replyOf answer) (now out) ⌝ }
     requires { ⌜ textRoom ≤ length (now text) ⌝ }
-    ensures is { λ r. ⌜ take r (now (text .exit)) ≡ printedWords (told answer) (now (out .entry)) ⌝ }
+    ensures is { λ r. ⌜ take r (now (text .exit)) ≡ printedWords (replyOf answer) (now (out .entry)) ⌝ }
     ensures fits { λ r. ⌜ r ≤ length (now (text .exit)) ⌝ }
 {
     let number = answer.number();

@@ -7,8 +7,8 @@ use native.Mathlib.Omega.{arith}
 use lib.Dec.{ltb}
 use lib.ListN.{length}
 use borrow.Author.Tests.{lt-ltb, le-ltb, le-leb, lt-leb}
-use Rattle.laws.specs.Interval.{pick}
-use Rattle.laws.specs.Plan.{Plan, draw, after}
+use Rattle.probability.specs.Interval.{pick}
+use Rattle.probability.specs.Plan.{Plan, draw, after}
 use Rattle.draw.specs.Draw.{largest, drawAt}
 use Rattle.draw.specs.Run.{Run, finished, short, drew, run}
 use Rattle.draw.specs.declared.Drawn.{Drawn}

@@ -5,13 +5,13 @@ use mathlib.Core.List.{List}
 use native.Mathlib.Nat.{mul-pos}
 use native.Mathlib.Omega.{arith}
 use lib.ListN.{length}
-use Rattle.laws.specs.Sum.{Σ}
-use Rattle.laws.specs.Fraction.{Fraction, _//_, _⊗_, _≈_, sum}
-use Rattle.laws.proofs.Sums.{Σ-mul, Σ-map}
-use Rattle.laws.proofs.Fractions.{≈-refl, ≈-sym, ≈-trans, ≈-num, ⊕-≈, ⊕-same, ⊗-≈, ⊗-assoc, ⊗-distrib-right, sum-≈, sum-den, sum-same, sum-add, sum-part, sum-mix}
-use Rattle.round.proofs.Weights.{U-sum}
+use Rattle.probability.specs.Sum.{Σ}
+use Rattle.probability.specs.Fraction.{Fraction, _//_, _⊗_, _≈_, sum}
+use Rattle.probability.proofs.Sums.{Σ-mul, Σ-map}
+use Rattle.probability.proofs.Fractions.{≈-refl, ≈-sym, ≈-trans, ≈-num, ⊕-≈, ⊕-same, ⊗-≈, ⊗-assoc, ⊗-distrib-right, sum-≈, sum-den, sum-same, sum-add, sum-part, sum-mix}
+use Rattle.round.proofs.WeightSums.{U-sum}
 use Rattle.round.specs.Round.{liftAt, sent, U, Sends, Donate}
-use Rattle.laws.specs.Initial.{Initial, here, elsewhere}
+use Rattle.probability.specs.Initial.{Initial, here, elsewhere}
 use Rattle.round.specs.Share.{heldOf, overInitial, overHeld}
 use Rattle.round.specs.declared.Donors.{Donors}
 use Rattle.round.specs.declared.Donors.the-variants.{None, One, Two}

@@ -8,13 +8,13 @@ use native.Mathlib.Omega.{arith}
 use lib.ListN.{length}
 use lib.Dec.{leb, eqb}
 use borrow.Author.Tests.{leb-true, leb-false}
-use Rattle.laws.specs.Sum.{total}
-use Rattle.laws.specs.Fraction.{Fraction, _//_, _⊗_, _≈_, sum}
-use Rattle.laws.specs.Plan.{after, paths, weight, mass}
-use Rattle.laws.proofs.Tests.{eqb-comm}
-use Rattle.laws.proofs.Sums.{over-ext, Σ-mono, Σ-mul, Σ-map, Σ-term}
-use Rattle.laws.proofs.Fractions.{≈-refl, ≈-sym, ≈-trans, ≲-≈, ≈-num, ⊕-same, ⊗-≈, sum-≈}
-use Rattle.laws.proofs.Masses.{weighed}
+use Rattle.probability.specs.Sum.{total}
+use Rattle.probability.specs.Fraction.{Fraction, _//_, _⊗_, _≈_, sum}
+use Rattle.probability.specs.Plan.{after, paths, weight, mass}
+use Rattle.probability.proofs.Tests.{eqb-comm}
+use Rattle.probability.proofs.Sums.{over-ext, Σ-mono, Σ-mul, Σ-map, Σ-term}
+use Rattle.probability.proofs.Fractions.{≈-refl, ≈-sym, ≈-trans, ≲-≈, ≈-num, ⊕-same, ⊗-≈, sum-≈}
+use Rattle.probability.proofs.Masses.{weighed}
 use Rattle.round.specs.Round.{liftAt, S, sent, U, D, oldWeight, Weight, weights, weightAt, G, Fitting}
 use Rattle.round.specs.Choice.{Selection, fresh, preliminaryBy, keyfitz, select, plan, isHeld}
 use Rattle.round.specs.Share.{overInitial, overHeld, chooses}
@@ -22,7 +22,7 @@ use Rattle.round.specs.Keep.{kept, Coupling, tickets, keptTickets, Attai
 use Rattle.round.specs.declared.Donors.the-variants.{One}
 use Rattle.round.specs.declared.Held.the-variants.{Neither, Single}
 use Rattle.round.specs.declared.Lift.{Lift}
-use Rattle.round.proofs.Weights.{old-sum, new-sum, losses, one-positive}
+use Rattle.round.proofs.WeightSums.{old-sum, new-sum, losses, one-positive}
 use Rattle.round.proofs.Keyfitz.{none, passes, unit-of, arrives, leaves, own, stays}
 use Rattle.round.proofs.Shares.{weight-at, length-weights, every-fresh, every-update}
 

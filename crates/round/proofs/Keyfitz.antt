@@ -8,20 +8,20 @@ use native.Mathlib.Omega.{arith}
 use lib.ListN.{length, getD, List·getD-map, length-map}
 use lib.Dec.{leb, ltb, eqb}
 use borrow.Author.Tests.{leb-true, leb-false, ltb-true, eq-eqb}
-use Rattle.laws.specs.Sum.{Σ, total, indicator}
-use Rattle.laws.specs.Fraction.{_//_, _⊗_, _≈_, sum}
-use Rattle.laws.specs.Interval.{pick}
-use Rattle.laws.specs.Plan.{Plan, done, draw, Every, Drawable, mass, mean}
-use Rattle.laws.proofs.Tests.{eqb-comm}
-use Rattle.laws.proofs.Sums.{over-ext, Σ-add, Σ-mul, Σ-step, Σ-one, Σ-map, map-le}
-use Rattle.laws.proofs.Intervals.{pick-some}
-use Rattle.laws.proofs.Fractions.{≈-refl, ⊗-≈, ⊗-part, cancel, sum-same}
-use Rattle.laws.proofs.Masses.{mass-even, mass-hits}
+use Rattle.probability.specs.Sum.{Σ, total, indicator}
+use Rattle.probability.specs.Fraction.{_//_, _⊗_, _≈_, sum}
+use Rattle.probability.specs.Interval.{pick}
+use Rattle.probability.specs.Plan.{Plan, done, draw, Every, Drawable, mass, mean}
+use Rattle.probability.proofs.Tests.{eqb-comm}
+use Rattle.probability.proofs.Sums.{over-ext, Σ-add, Σ-mul, Σ-step, Σ-one, Σ-map, map-le}
+use Rattle.probability.proofs.Intervals.{pick-some}
+use Rattle.probability.proofs.Fractions.{≈-refl, ⊗-≈, ⊗-part, cancel, sum-same}
+use Rattle.probability.proofs.Masses.{mass-even, mass-hits}
 use Rattle.round.specs.Round.{Weight, weightAt, growth, G}
 use Rattle.round.specs.Choice.{selection, drawPlace, stayOr, keyfitz}
 use Rattle.round.specs.Share.{chooses}
 use Rattle.round.specs.Keep.{smaller}
-use Rattle.round.proofs.Weights.{loss, losses, dropped-G}
+use Rattle.round.proofs.WeightSums.{loss, losses, dropped-G}
 
 abbrev pub none : Weight
 none = record { old = 0; new = 0 }

@@ -6,12 +6,12 @@ use mathlib.Core.List.{List, [], _∷_, map}
 use native.Mathlib.Omega.{arith}
 use lib.ListN.{length, List·getD-map}
 use lib.Dec.{leb, ltb}
-use Rattle.laws.proofs.Sums.{map-le}
-use Rattle.laws.specs.Interval.{pick}
-use Rattle.laws.specs.Plan.{Plan, done, draw, after, Every, Drawable, Within}
-use Rattle.laws.proofs.Intervals.{pick-some}
-use Rattle.laws.proofs.Fractions.{pos-left}
-use Rattle.laws.proofs.Masses.{every-map}
+use Rattle.probability.proofs.Sums.{map-le}
+use Rattle.probability.specs.Interval.{pick}
+use Rattle.probability.specs.Plan.{Plan, done, draw, after, Every, Drawable, Within}
+use Rattle.probability.proofs.Intervals.{pick-some}
+use Rattle.probability.proofs.Fractions.{pos-left}
+use Rattle.probability.proofs.Masses.{every-map}
 use Rattle.round.specs.Round.{liftAt, S, D, Weight, oldWeight, newWeight, weights, weightAt, Fitting}
 use Rattle.round.specs.Choice.{Selection, Preliminary, noUnit, unitAt, drawPlace, fresh, firstOdds, preliminaryBy, stayOr, keyfitz, select, plan, isHeld, outcome}
 use Rattle.round.specs.Rows.{Bounded, Stands}
@@ -21,7 +21,7 @@ use Rattle.round.specs.declared.Donors.the-variants.{None, One, Two}
 use Rattle.round.specs.declared.Held.{Held}
 use Rattle.round.specs.declared.Held.the-variants.{Neither, Single, Both}
 use Rattle.round.specs.declared.Lift.{Lift}
-use Rattle.round.proofs.Weights.{old-sum, new-sum, losses, dropped-G, G-le, D-bound, weight-bound, one-positive, two-positive}
+use Rattle.round.proofs.WeightSums.{old-sum, new-sum, losses, dropped-G, G-le, D-bound, weight-bound, one-positive, two-positive}
 use Rattle.round.proofs.Keyfitz.{none, arrival}
 use Rattle.round.proofs.Shares.{length-weights, every-fresh, every-plan}
 

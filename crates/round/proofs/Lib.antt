@@ -1,4 +1,4 @@
-pub mod Weights
+pub mod WeightSums
 pub mod Keyfitz
 pub mod Initials
 pub mod Preliminaries

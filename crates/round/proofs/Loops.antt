@@ -12,18 +12,18 @@ use lib.Seq.{slice, slice-empty, slice-cons, length-slice, drop-cons, drop-drop,
 use borrow.Author.Tests.{ltb-true, ltb-false}
 use mir.Val.{Fits}
 use mir.Syntax.{w64}
-use Rattle.laws.specs.Sum.{total}
-use Rattle.laws.specs.Interval.{pick}
-use Rattle.laws.specs.Pieces.{pieces}
-use Rattle.laws.proofs.Lists.{slice-lent}
-use Rattle.laws.proofs.Sums.{total-map, total-cut, map-le}
-use Rattle.laws.proofs.Intervals.{pick-here, pick-beyond, pick-within, pick-past, pick-lt}
-use Rattle.laws.proofs.Pieces.{length-pieces, piece-inside, piece-element}
+use Rattle.probability.specs.Sum.{total}
+use Rattle.probability.specs.Interval.{pick}
+use Rattle.probability.specs.Pieces.{pieces}
+use Rattle.probability.proofs.Lists.{slice-lent}
+use Rattle.probability.proofs.Sums.{total-map, total-cut, map-le}
+use Rattle.probability.proofs.Intervals.{pick-here, pick-beyond, pick-within, pick-past, pick-lt}
+use Rattle.probability.proofs.Pieces.{length-pieces, piece-inside, piece-element}
 use Rattle.round.specs.Round.{liftAt, U, sent, Weight, weightAt, growth, G}
 use Rattle.round.specs.Rows.{lift, rowLength, liftOf, lifts, multiplierOf, scaled, Room, LiftRoom, Balanced, blockLength, blockEnd}
 use Rattle.round.specs.declared.Lift.{Lift}
 use Rattle.round.specs.declared.Scale.{Scale}
-use Rattle.round.proofs.Weights.{U-sum, dropped-G, G-le}
+use Rattle.round.proofs.WeightSums.{U-sum, dropped-G, G-le}
 
 -- ---- the lifts of the rows
 

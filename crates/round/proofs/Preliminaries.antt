@@ -8,15 +8,15 @@ use native.Mathlib.Nat.{mul-pos, mul-one}
 use native.Mathlib.Omega.{arith}
 use lib.ListN.{length}
 use lib.Dec.{ltb, eqb}
-use Rattle.laws.specs.Sum.{Σ, indicator}
-use Rattle.laws.specs.Fraction.{Fraction, _//_, _⊗_, _≈_}
-use Rattle.laws.specs.Plan.{done, draw, mass, mean}
-use Rattle.laws.proofs.Sums.{over-ext, Σ-add, Σ-mul, Σ-step, Σ-one}
-use Rattle.laws.proofs.Fractions.{≈-refl, ≈-trans, ≈-num}
-use Rattle.laws.proofs.Masses.{mass-even}
+use Rattle.probability.specs.Sum.{Σ, indicator}
+use Rattle.probability.specs.Fraction.{Fraction, _//_, _⊗_, _≈_}
+use Rattle.probability.specs.Plan.{done, draw, mass, mean}
+use Rattle.probability.proofs.Sums.{over-ext, Σ-add, Σ-mul, Σ-step, Σ-one}
+use Rattle.probability.proofs.Fractions.{≈-refl, ≈-trans, ≈-num}
+use Rattle.probability.proofs.Masses.{mass-even}
 use Rattle.round.specs.Round.{liftAt, S, sent, U, D, oldWeight, Sends}
 use Rattle.round.specs.Choice.{Preliminary, noUnit, unitAt, firstOdds, preliminaryBy, preliminary}
-use Rattle.laws.specs.Initial.{here, elsewhere}
+use Rattle.probability.specs.Initial.{here, elsewhere}
 use Rattle.round.specs.Share.{heldOf, overInitial, overHeld}
 use Rattle.round.specs.declared.Donors.{Donors}
 use Rattle.round.specs.declared.Donors.the-variants.{One, Two}

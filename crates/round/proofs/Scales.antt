@@ -10,8 +10,8 @@ use mir.Val.{Fits}
 use mir.Syntax.{w64}
 use lib.Dec.{eqb}
 use borrow.Author.Tests.{eqb-true}
-use Rattle.laws.specs.Sum.{total}
-use Rattle.laws.proofs.Sums.{total-map, total-mul}
+use Rattle.probability.specs.Sum.{total}
+use Rattle.probability.proofs.Sums.{total-map, total-mul}
 use Rattle.round.specs.Round.{S, U, sent, D, oldWeight, newWeight, Weight, weights, growth, G, Fitting}
 use Rattle.round.specs.Choice.{unitAt, drawPlace, fresh, firstOdds, keyfitz, select}
 use Rattle.round.specs.Rows.{HasSums, Multipliable, scaled, scaleOf, wholly, Room, Balanced, capacity, Bounded, Stands, Callable}
@@ -22,7 +22,7 @@ use Rattle.round.specs.declared.Held.the-variants.{Single, Both}
 use Rattle.round.specs.declared.Lift.{Lift}
 use Rattle.round.specs.declared.Scale.{Scale}
 use Rattle.round.specs.declared.Sums.{Sums}
-use Rattle.round.proofs.Weights.{old-sum, new-sum, two-positive, weight-bound}
+use Rattle.round.proofs.WeightSums.{old-sum, new-sum, two-positive, weight-bound}
 
 -- ---- the multipliers of a round
 

@@ -8,12 +8,12 @@ use native.Mathlib.Omega.{arith}
 use lib.ListN.{length, getD, length-map}
 use lib.Dec.{ltb, eqb}
 use borrow.Author.Tests.{lt-ltb, le-ltb, ltb-true, eq-eqb, ne-eqb}
-use Rattle.laws.specs.Sum.{over}
-use Rattle.laws.specs.Fraction.{Fraction, _//_, _⊕_, _⊗_, _≈_, sum}
-use Rattle.laws.specs.Plan.{after, Every, Drawable, paths, weight, mass}
-use Rattle.laws.proofs.Sums.{over-ext}
-use Rattle.laws.proofs.Fractions.{pos-left, ≈-refl, ≈-sym, ≈-trans, ⊕-≈, ⊗-≈, ⊗-assoc, sum-≈, sum-cut, sum-part}
-use Rattle.laws.proofs.Masses.{weighed, mass-after, mass-den, mass-hits, mean-classes, every-map, every-after}
+use Rattle.probability.specs.Sum.{over}
+use Rattle.probability.specs.Fraction.{Fraction, _//_, _⊕_, _⊗_, _≈_, sum}
+use Rattle.probability.specs.Plan.{after, Every, Drawable, paths, weight, mass}
+use Rattle.probability.proofs.Sums.{over-ext}
+use Rattle.probability.proofs.Fractions.{pos-left, ≈-refl, ≈-sym, ≈-trans, ⊕-≈, ⊗-≈, ⊗-assoc, sum-≈, sum-cut, sum-part}
+use Rattle.probability.proofs.Masses.{weighed, mass-after, mass-den, mass-hits, mean-classes, every-map, every-after}
 use Rattle.round.specs.Round.{liftAt, S, D, oldWeight, newWeight, weights, weightAt}
 use Rattle.round.specs.Choice.{Preliminary, noUnit, unitAt, selection, drawPlace, fresh, preliminaryBy, preliminary, keyfitz, select, plan}
 use Rattle.round.specs.Share.{overHeld, chooses, comes, any, share, preliminaryShare, UpdatesTheorem, SharesTheorem}
@@ -22,7 +22,7 @@ use Rattle.round.specs.declared.Donors.the-variants.{None, One, Two}
 use Rattle.round.specs.declared.Held.{Held}
 use Rattle.round.specs.declared.Held.the-variants.{Neither, Single, Both}
 use Rattle.round.specs.declared.Lift.{Lift}
-use Rattle.round.proofs.Weights.{old-sum, new-sum, one-positive, two-positive}
+use Rattle.round.proofs.WeightSums.{old-sum, new-sum, one-positive, two-positive}
 use Rattle.round.proofs.Keyfitz.{drawable, updated}
 use Rattle.round.proofs.Initials.{Inside, Sums, held-≈, held-mix, held-whole}
 use Rattle.round.proofs.Preliminaries.{Only, Alike, Known, known-one, known-two}

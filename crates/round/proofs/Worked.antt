@@ -2,12 +2,12 @@
 use Prim.Native.Nat.{ℕ, zero, suc, _*_, _<_}
 use mathlib.Core.Path.{_≡_, refl}
 use mathlib.Core.Bool.{true}
-use Rattle.laws.specs.Same.{allRight}
+use Rattle.probability.specs.Table.{allRight}
 use native.Mathlib.Omega.{arith}
-use Rattle.laws.specs.Sum.{over, Σ, total, totalBy}
-use Rattle.laws.specs.Interval.{pick}
-use Rattle.laws.specs.Fraction.{sumOver}
-use Rattle.laws.specs.Plan.{after, paths, weight}
+use Rattle.probability.specs.Sum.{over, Σ, total, totalBy}
+use Rattle.probability.specs.Interval.{pick}
+use Rattle.probability.specs.Fraction.{sumOver}
+use Rattle.probability.specs.Plan.{after, paths, weight}
 use Rattle.draw.specs.Draw.{drawFrom}
 use Rattle.draw.specs.Run.{run}
 use Rattle.round.specs.Round.{S, U, D, oldWeight, newWeight, weights, weightAt, G}
@@ -15,21 +15,21 @@ use Rattle.round.specs.Choice.{drawPlace, firstOdds, preliminaryBy, stay
 use Rattle.round.specs.Share.{overInitial, overHeld, share}
 use Rattle.round.specs.Keep.{kept, Coupling}
 use Rattle.round.specs.declared.Donors.the-variants.{One}
-use Rattle.round.specs.Worked.{cases, right, rightFigures, rightShares, exchanged, rule, rightKeeping}
+use Rattle.round.specs.Worked.{cases, figureCases, shareCases, exchanged, rule, keepingCases}
 
-pub all-right : allRight right cases ≡ true
+pub all-right : allRight cases ≡ true
 unfolding total totalBy pick after drawFrom run S U D oldWeight newWeight weights G drawPlace firstOdds preliminaryBy stayOr keyfitz select plan outcome
 all-right = refl
 
-pub exact-figures : rightFigures ≡ true
+pub exact-figures : allRight figureCases ≡ true
 unfolding total totalBy S U D oldWeight newWeight weights G
 exact-figures = refl
 
-pub exact-shares : rightShares ≡ true
+pub exact-shares : allRight shareCases ≡ true
 unfolding over total totalBy pick after paths sumOver weight S U D oldWeight newWeight weights G drawPlace firstOdds preliminaryBy stayOr keyfitz select plan overInitial overHeld share
 exact-shares = refl
 
-pub exact-keeping : rightKeeping ≡ true
+pub exact-keeping : allRight keepingCases ≡ true
 unfolding over total totalBy pick after paths sumOver weight S U D oldWeight newWeight weights G drawPlace firstOdds preliminaryBy stayOr keyfitz select plan overInitial overHeld kept
 exact-keeping = refl
 

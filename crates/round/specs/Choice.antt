@@ -3,8 +3,8 @@ use Prim.Native.Nat.{ℕ, _*_}
 use mathlib.Core.Bool.{Bool, true, false, cond}
 use mathlib.Core.List.{List, map}
 use lib.Dec.{leb, ltb, eqb}
-use Rattle.laws.specs.Interval.{pick}
-use Rattle.laws.specs.Plan.{Plan, done, draw, after}
+use Rattle.probability.specs.Interval.{pick}
+use Rattle.probability.specs.Plan.{Plan, done, draw, after}
 use Rattle.draw.specs.Draw.{largest}
 use Rattle.draw.specs.Run.{Run, finished, short, run}
 use Rattle.round.specs.Round.{S, U, D, Weight, weights, weightAt, growth, G}

@@ -4,9 +4,9 @@ use Prim.Native.Nat.{ℕ, _*_, _<_, min}
 use mathlib.Core.Path.{_≡_}
 use mathlib.Core.List.{List, map}
 use lib.ListN.{length}
-use Rattle.laws.specs.Sum.{Σ, total}
-use Rattle.laws.specs.Fraction.{Fraction, _//_, _⊗_, _≈_, _≲_}
-use Rattle.laws.specs.Plan.{paths, weight}
+use Rattle.probability.specs.Sum.{Σ, total}
+use Rattle.probability.specs.Fraction.{Fraction, _//_, _⊗_, _≈_, _≲_}
+use Rattle.probability.specs.Plan.{paths, weight}
 use Rattle.round.specs.Round.{S, U, D, Weight, weights, weightAt, Fitting}
 use Rattle.round.specs.Choice.{plan, isHeld}
 use Rattle.round.specs.Share.{overHeld}

@@ -3,8 +3,8 @@ use Prim.Native.Nat.{ℕ, _-_, _*_, _^_, _≤_, _<_}
 use mathlib.Core.Path.{_≡_}
 use mathlib.Core.List.{List, map}
 use lib.ListN.{length}
-use Rattle.laws.specs.Sum.{total}
-use Rattle.laws.specs.Plan.{Every, Drawable, Within}
+use Rattle.probability.specs.Sum.{total}
+use Rattle.probability.specs.Plan.{Every, Drawable, Within}
 use Rattle.round.specs.Round.{liftAt, S, D, weights, weightAt, G, Fitting}
 use Rattle.round.specs.Choice.{plan}
 use Rattle.round.specs.Rows.{Bounded, Stands}

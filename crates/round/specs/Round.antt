@@ -3,7 +3,7 @@
 use Prim.Native.Nat.{ℕ, _+_, _-_, _*_, _≤_, _<_}
 use mathlib.Core.List.{List, map}
 use lib.ListN.{getD}
-use Rattle.laws.specs.Sum.{total, valueBy, totalBy}
+use Rattle.probability.specs.Sum.{total, valueBy, totalBy}
 use Rattle.round.specs.declared.Donors.{Donors}
 use Rattle.round.specs.declared.Donors.the-variants.{None, One, Two}
 use Rattle.round.specs.declared.Lift.{Lift}

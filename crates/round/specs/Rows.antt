@@ -5,8 +5,8 @@ use mathlib.Core.Bool.{cond}
 use mathlib.Core.List.{List, map}
 use lib.ListN.{length, getD}
 use lib.Dec.{ltb, eqb}
-use Rattle.laws.specs.Sum.{total}
-use Rattle.laws.specs.Pieces.{pieces}
+use Rattle.probability.specs.Sum.{total}
+use Rattle.probability.specs.Pieces.{pieces}
 use Rattle.round.specs.Round.{S, U, D, oldWeight, Weight, Fitting}
 use Rattle.round.specs.Choice.{firstOdds}
 use Rattle.round.specs.declared.Donors.{Donors}

@@ -5,10 +5,10 @@ use mathlib.Core.Bool.{Bool, true, false}
 use mathlib.Core.List.{List, map}
 use lib.ListN.{length}
 use lib.Dec.{eqb}
-use Rattle.laws.specs.Sum.{total}
-use Rattle.laws.specs.Initial.{Initial, here, elsewhere}
-use Rattle.laws.specs.Fraction.{Fraction, _//_, _⊕_, _⊗_, _≈_, sum}
-use Rattle.laws.specs.Plan.{Plan, after, Every, paths, weight}
+use Rattle.probability.specs.Sum.{total}
+use Rattle.probability.specs.Initial.{Initial, here, elsewhere}
+use Rattle.probability.specs.Fraction.{Fraction, _//_, _⊕_, _⊗_, _≈_, sum}
+use Rattle.probability.specs.Plan.{Plan, after, Every, paths, weight}
 use Rattle.round.specs.Round.{liftAt, S, sent, U, D, oldWeight, Weight, weightAt, Fitting}
 use Rattle.round.specs.Choice.{Preliminary, noUnit, unitAt, Selection, preliminary, keyfitz, plan}
 use Rattle.round.specs.declared.Donors.{Donors}

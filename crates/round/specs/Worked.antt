@@ -5,8 +5,8 @@ use mathlib.Core.Bool.{Bool, true, false, _&&_}
 use mathlib.Core.List.{List, [], _∷_, map}
 use lib.Dec.{eqb}
 use lib.ListN.{getD}
-use Rattle.laws.specs.Fraction.{_//_}
-use Rattle.laws.specs.Same.{same, sameFraction}
+use Rattle.probability.specs.Fraction.{_//_}
+use Rattle.probability.specs.Table.{same, sameFraction}
 use Rattle.draw.specs.Draw.{largest, drawAt}
 use Rattle.draw.specs.Worked.{sameDrawn}
 use Rattle.draw.specs.declared.Drawn.{Drawn}
@@ -24,21 +24,19 @@ use Rattle.round.specs.declared.Lift.{Lift}
 use Rattle.round.specs.declared.Selected.{Selected}
 use Rattle.round.specs.declared.Selected.the-variants.{At, Short}
 
--- a round's answer from its held lifts and random words, or a draw's from a bound and random words
-pub data Case : Type 0 where
-  chosen : Donors → List Lift → Held → List ℕ → Selected → Case
-  drawn : ℕ → List ℕ → Drawn → Case
-
 abbrev pub sameSelected : Selected → Selected → Bool
 sameSelected (At i o n) (At j p m) = eqb i j && (eqb o p && eqb n m)
 sameSelected (At i o n) Short = false
 sameSelected Short (At j p m) = false
 sameSelected Short Short = true
 
--- whether the definitions give the answer
-abbrev pub right : Case → Bool
-right (chosen ds ls h ws a) = sameSelected (selected ds ls h ws 0) a
-right (drawn b ws a) = sameDrawn (drawAt largest ws 0 b) a
+-- a round, its held lifts and random words, and the choice
+abbrev chosen : Donors → List Lift → Held → List ℕ → Selected → Bool
+chosen ds ls h ws a = sameSelected (selected ds ls h ws 0) a
+
+-- a bound and random words, and what a draw finds
+abbrev drawn : ℕ → List ℕ → Drawn → Bool
+drawn b ws a = sameDrawn (drawAt largest ws 0 b) a
 
 -- "Lifts 11, 12, 13, old 2, 3, 5, new 4, 1, 5"
 abbrev three : List Lift
@@ -52,16 +50,18 @@ two = lift 1 1 1 ∷ lift 3 2 1 ∷ []
 abbrev noChance : List Lift
 noChance = lift 3 1 0 ∷ lift 7 1 1 ∷ []
 
--- whether the round's old and new weights are these
-abbrev pub rightWeights : Donors → List Lift → List ℕ → List ℕ → Bool
-rightWeights ds ls olds news = same (map (λ w. w .old) (weights ds ls)) olds && same (map (λ w. w .new) (weights ds ls)) news
+-- a round, and its old and new weights
+abbrev weighs : Donors → List Lift → List ℕ → List ℕ → Bool
+weighs ds ls olds news = same (map (λ w. w .old) (weights ds ls)) olds && same (map (λ w. w .new) (weights ds ls)) news
 
 -- "old weights 20, 30, 50, new 40, 10, 50, G 20" and "D 18, old weights 12 and 24, new 18 and 18"
-abbrev pub rightFigures : Bool
-rightFigures =
-    rightWeights (One 10) three (20 ∷ 30 ∷ 50 ∷ []) (40 ∷ 10 ∷ 50 ∷ [])
-    && (eqb (G (weights (One 10) three)) 20
-    && (eqb (D (Two 4 6) two) 18 && rightWeights (Two 4 6) two (12 ∷ 24 ∷ []) (18 ∷ 18 ∷ [])))
+abbrev pub figureCases : List Bool
+figureCases =
+    weighs (One 10) three (20 ∷ 30 ∷ 50 ∷ []) (40 ∷ 10 ∷ 50 ∷ [])
+    ∷ eqb (G (weights (One 10) three)) 20
+    ∷ eqb (D (Two 4 6) two) 18
+    ∷ weighs (Two 4 6) two (12 ∷ 24 ∷ []) (18 ∷ 18 ∷ [])
+    ∷ []
 
 -- a newcomer of measure 1, alone
 abbrev alone : List Lift
@@ -72,7 +72,7 @@ abbrev bothGrow : List Lift
 bothGrow = lift 4 1 1 ∷ lift 1 1 2 ∷ lift 1 1 3 ∷ []
 
 -- M1 to M11 in the document's order, M11, "always dropped", for each r; then sentences of it that no M shows
-abbrev pub cases : List Case
+abbrev pub cases : List Bool
 cases =
     chosen (One 10) three (Single 1) (9 ∷ []) (At 1 1 1)
     ∷ chosen (One 10) three (Single 1) (10 ∷ 0 ∷ []) (At 0 2 2)
@@ -97,9 +97,9 @@ cases =
     ∷ chosen (One 6) bothGrow (Single 0) (30 ∷ 24 ∷ []) (At 2 2 2)
     ∷ []
 
--- whether the lift at place j has exactly b over S
-abbrev pub rightShare : Donors → List Lift → ℕ → Bool
-rightShare ds ls j = sameFraction (share ds ls j) (liftAt ls j .new // S ls)
+-- the lift at place j has exactly b over S
+abbrev shares : Donors → List Lift → ℕ → Bool
+shares ds ls j = sameFraction (share ds ls j) (liftAt ls j .new // S ls)
 
 -- old 1, 2, new 2, 1, of one donor: the first lift grows, the second shrinks
 abbrev pub exchanged : List Lift
@@ -110,16 +110,14 @@ abbrev ofTwoDonors : List Lift
 ofTwoDonors = lift 1 1 2 ∷ lift 1 2 1 ∷ []
 
 -- where each donor has a lift elsewhere
-abbrev pub rightShares : Bool
-rightShares =
-    rightShare (One 4) exchanged 0 && (rightShare (One 4) exchanged 1 && (rightShare (Two 2 3) ofTwoDonors 0 && rightShare (Two 2 3) ofTwoDonors 1))
+abbrev pub shareCases : List Bool
+shareCases =
+    shares (One 4) exchanged 0 ∷ shares (One 4) exchanged 1 ∷ shares (Two 2 3) ofTwoDonors 0 ∷ shares (Two 2 3) ofTwoDonors 1 ∷ []
 
 -- "held lift by chosen lift": a coupling of the old weights 3 and 6 with the new weights 6 and 3, where the donor lost nothing
 abbrev pub rule : ℕ → ℕ → ℕ
 rule i j = getD (getD ((3 ∷ 0 ∷ []) ∷ (3 ∷ 3 ∷ []) ∷ []) i []) j 0
 
 -- "It keeps the tickets where both lifts are one.": 6 of 9, and so much "the ways weigh whose lift is held in their own marking"
-abbrev pub rightKeeping : Bool
-rightKeeping =
-    eqb (tickets 2 rule) 9
-    && (eqb (keptTickets 2 rule) 6 && sameFraction (kept (One 3) exchanged) (6 // 9))
+abbrev pub keepingCases : List Bool
+keepingCases = eqb (tickets 2 rule) 9 ∷ eqb (keptTickets 2 rule) 6 ∷ sameFraction (kept (One 3) exchanged) (6 // 9) ∷ []

@@ -1,17 +1,25 @@
 // One round: which of its lifts is to carry the recorder ("One round" of document 01). The round is lent as rows in lift
 // order, one for each lift, of four numbers: lift number, donor (1 or 2, 0 for none), old measure and new measure.
 ghost use mathlib.Core.Path.{_≡_};
-ghost use mathlib.Core.List.{List, map};
-ghost use Prim.Native.Nat.{_-_, _^_, _≤_, _<_};
-ghost use lib.ListN.{length, take};
-ghost use lib.Seq.{slice};
-ghost use Rattle.laws.specs.Interval.{pick as pickOf};
+ghost use mathlib.Core.List.{map};
+ghost use Prim.Native.Nat.{_≤_, _<_};
+ghost use lib.ListN.{length};
 ghost use Rattle.draw.specs.Draw.{largest};
 ghost use Rattle.draw.specs.Run.{run};
-ghost use Rattle.round.specs.Round.{liftAt, U, sent as sentOf, growth, G, Fitting};
+ghost use Rattle.round.specs.Round.{growth, G};
 ghost use Rattle.round.specs.Choice.{drawPlace, preliminaryBy, keyfitz, isHeld, outcome as outcomeOf, selection, proposed, answer, selected};
-ghost use Rattle.round.specs.Rows.{lifts, Bounded, Callable, HasSums, Multipliable, multiplierOf, scaled, scaleOf, Room, LiftRoom, Balanced, blockLength, blockEnd, Contested};
+ghost use Rattle.round.specs.Rows.{lifts, Callable, HasSums, scaled, Room, Balanced, Contested};
 use draw::Drawn;
+use picking::pick_lift;
+use weights::growth_sum;
+use weights::lift_at;
+use weights::multiplier;
+use weights::scaling;
+
+mod picking;
+mod weights;
+
+pub use weights::sums_of;
 
 // The donors of a round, with their whole old sums T.
 pub enum Donors {
@@ -76,236 +84,6 @@ const WHOLLY: Scale = Scale {
     odds: 0,
 };
 
-// The most lifts that are lent at a time.
-const BLOCK: usize = 16;
-
-// What the old measures of a donor are multiplied by.
-fn multiplier(s: Scale, donor: u32) -> u64
-    ensures { λ r. ⌜ r ≡ multiplierOf s donor ⌝ }
-{
-    if donor == 1 {
-        return s.first;
-    }
-    if donor == 2 {
-        return s.second;
-    }
-    0
-}
-
-// A lift's growth where above zero, else 0.
-fn interval(s: Scale, l: Lift) -> u64
-    requires { ⌜ LiftRoom s l ⌝ }
-    ensures { λ r. ⌜ r ≡ growth (scaled s l) ⌝ }
-{
-    let before = l.old * multiplier(s, l.donor);
-    let after = l.new * s.new;
-    if before < after {
-        return after - before;
-    }
-    0
-}
-
-// How many lifts the rows have.
-fn count(rows: &[u32]) -> usize
-    ensures { λ r. ⌜ r ≡ length (lifts (now (rows .entry))) ⌝ }
-{
-    rows.len() / Lift::ROW
-}
-
-// The lift at a place of the round.
-fn lift_at(rows: &[u32], i: usize) -> Lift
-    requires { ⌜ i < length (lifts (now rows)) ⌝ }
-    ensures { λ r. ⌜ r ≡ liftAt (lifts (now (rows .entry))) i ⌝ }
-{
-    let at = Lift::ROW * i;
-    Lift {
-        old: rows[at + 2] as u64,
-        donor: rows[at + 1],
-        new: rows[at + 3] as u64,
-    }
-}
-
-// The sum of the intervals of the lifts from place a up to place e.
-fn reach_between(s: Scale, rows: &[u32], a: usize, e: usize) -> u64
-    requires { ⌜ Room s (lifts (now rows)) ⌝ }
-    requires { ⌜ e ≤ length (lifts (now rows)) ⌝ }
-    ensures { λ r. ⌜ r ≡ G (map (scaled s) (slice a e (lifts (now (rows .entry))))) ⌝ }
-{
-    let mut sum: u64 = 0;
-    let mut i = a;
-    while i < e {
-        sum += interval(s, lift_at(rows, i));
-        i += 1;
-    }
-    sum
-}
-
-// The sum of all intervals.
-fn reach(s: Scale, rows: &[u32]) -> u64
-    requires { ⌜ Room s (lifts (now rows)) ⌝ }
-    ensures { λ r. ⌜ r ≡ G (map (scaled s) (lifts (now (rows .entry)))) ⌝ }
-{
-    reach_between(s, rows, 0, count(rows))
-}
-
-// The place, among the lifts lent, of the one in whose interval the position q falls.
-fn pick(lifts: &[Lift], s: Scale, q: u64) -> usize
-    requires { ⌜ Room s (now lifts) ⌝ }
-    ensures { λ r. ⌜ r ≡ pickOf (map growth (map (scaled s) (now (lifts .entry)))) q ⌝ }
-{
-    let mut left = q;
-    let mut i = 0;
-    while i < lifts.len() {
-        let w = interval(s, lifts[i]);
-        if left < w {
-            return i;
-        }
-        left -= w;
-        i += 1;
-    }
-    i
-}
-
-// The same among the first n lifts of a block, which it lends.
-fn pick_first(block: [Lift; BLOCK], n: usize, s: Scale, q: u64) -> usize
-    requires { ⌜ (n ≤ blockLength) × Room s (take n block) ⌝ }
-    ensures { λ r. ⌜ r ≡ pickOf (map growth (map (scaled s) (take n block))) q ⌝ }
-{
-    pick(&block[..n], s, q)
-}
-
-// Where the block that begins at place a ends, in a round of n lifts.
-fn block_end(a: usize, n: usize) -> usize
-    requires { ⌜ a ≤ n ⌝ }
-    ensures { λ r. ⌜ r ≡ blockEnd a n ⌝ }
-{
-    if n - a < BLOCK {
-        return n;
-    }
-    a + BLOCK
-}
-
-// The lifts from place a up to place e, at the start of a block.
-fn gathered(rows: &[u32], a: usize, e: usize) -> [Lift; BLOCK]
-    requires { ⌜ (a ≤ e) × (e ≤ length (lifts (now rows))) ⌝ }
-    requires { ⌜ e - a ≤ blockLength ⌝ }
-    ensures { λ r. ⌜ take (e - a) r ≡ slice a e (lifts (now (rows .entry))) ⌝ }
-{
-    let none = Lift {
-        old: 0,
-        donor: 0,
-        new: 0,
-    };
-    let mut block = [none; BLOCK];
-    let mut i = a;
-    while i < e {
-        block[i - a] = lift_at(rows, i);
-        i += 1;
-    }
-    block
-}
-
-// The place of the lift in whose interval the position q falls: its block is found by the sums of blocks, and then lent.
-fn pick_lift(s: Scale, rows: &[u32], q: u64) -> usize
-    requires { ⌜ Room s (lifts (now rows)) ⌝ }
-    ensures { λ r. ⌜ r ≡ pickOf (map growth (map (scaled s) (lifts (now (rows .entry))))) q ⌝ }
-{
-    let n = count(rows);
-    let mut left = q;
-    let mut i = 0;
-    while i < n {
-        let e = block_end(i, n);
-        let w = reach_between(s, rows, i, e);
-        if left < w {
-            let block = gathered(rows, i, e);
-            return i + pick_first(block, e - i, s, left);
-        }
-        left -= w;
-        i = e;
-    }
-    i
-}
-
-// A lift's old measure where it comes from donor k, else 0.
-fn sent(l: Lift, k: u32) -> u64
-    ensures { λ r. ⌜ r ≡ sentOf k l ⌝ }
-{
-    if l.donor == k {
-        return l.old;
-    }
-    0
-}
-
-// U: the part of donor k's old sum that came here.
-fn came(rows: &[u32], k: u32) -> u64
-    requires { ⌜ U k (lifts (now rows)) ≤ 2 ^ 61 ⌝ }
-    ensures { λ r. ⌜ r ≡ U k (lifts (now (rows .entry))) ⌝ }
-{
-    let n = count(rows);
-    let mut sum: u64 = 0;
-    let mut i = 0;
-    while i < n {
-        sum += sent(lift_at(rows, i), k);
-        i += 1;
-    }
-    sum
-}
-
-// The sums that the choice of a round goes by.
-pub fn sums_of(rows: &[u32], donors: Donors) -> Sums
-    requires { ⌜ Fitting donors (lifts (now rows)) × Bounded donors (lifts (now rows)) ⌝ }
-    ensures { λ r. ⌜ HasSums donors (lifts (now (rows .entry))) r ⌝ }
-{
-    let new = reach(WHOLLY, rows);
-    match donors {
-        Donors::None => Sums {
-            new,
-            first: 0,
-            second: 0,
-        },
-        Donors::One(_) => Sums {
-            new,
-            first: came(rows, 1),
-            second: 0,
-        },
-        Donors::Two(_, _) => Sums {
-            new,
-            first: came(rows, 1),
-            second: came(rows, 2),
-        },
-    }
-}
-
-// The multipliers that give the weights of a round with these sums.
-fn scaling(t: Sums, donors: Donors) -> Scale
-    requires { ⌜ Multipliable donors t ⌝ }
-    ensures { λ r. ⌜ ((ls : List Lift) → HasSums donors ls t → r ≡ scaleOf donors ls) ⌝ }
-{
-    match donors {
-        Donors::None => Scale {
-            new: 0,
-            first: 0,
-            second: 0,
-            odds: 0,
-        },
-        Donors::One(_) => Scale {
-            new: t.first,
-            first: t.new,
-            second: 0,
-            odds: 0,
-        },
-        Donors::Two(t1, t2) => {
-            let odds = t.second * t1;
-            Scale {
-                new: t.first * t2 + odds,
-                first: t2 * t.new,
-                second: t1 * t.new,
-                odds,
-            }
-        }
-    }
-}
-
 // Whether the lift at a place is held.
 fn is_held(held: Held, place: usize) -> bool
     ensures { λ r. ⌜ r ≡ isHeld held place ⌝ }
@@ -343,7 +121,7 @@ fn draw_lift(
     requires { ⌜ 1 ≤ G (map (scaled s) (lifts (now rows))) ⌝ }
     ensures { λ r. ⌜ (let ws = map (scaled s) (lifts (now (rows .entry))) in r ≡ answer held (run largest (now (words .entry)) at (drawPlace (G ws) (map growth ws) dropped))) ⌝ }
 {
-    let bound = reach(s, rows);
+    let bound = growth_sum(s, rows);
     match draw::draw_from(words, at, bound) {
         Drawn::Value(q, next) => {
             let place = pick_lift(s, rows, q);

@@ -8,17 +8,17 @@ use native.Mathlib.Omega.{arith}
 use lib.Count.{trailingZeros, under}
 use lib.Dec.{eqb}
 use lib.ListN.{getD, set}
-use Rattle.laws.specs.Sum.{indicator}
+use Rattle.probability.specs.Sum.{indicator}
 use Rattle.sheet.specs.Sheet.{mostRounds, Lift}
-use Rattle.sheet.specs.Rounds.{those, rounds, sends, donors}
-use Rattle.sheet.specs.Tables.{bits}
+use Rattle.tally.specs.Rounds.{those, rounds, sends, donors}
+use Rattle.tally.specs.Tables.{bits}
 use Rattle.rows.specs.SetBits.{setFrom, setBits, noBit, twoAt, firstTwo}
 use Rattle.sheet.specs.Law.{Listed}
-use Rattle.sheet.proofs.Tables.{getD-tabulate}
-use Rattle.sheet.proofs.Bits.{low, high}
-use Rattle.sheet.proofs.Those.{those-cut, those-none, those-in, those-head}
-use Rattle.sheet.proofs.Sending.{sends-none, from-nowhere, from-beyond}
-use Rattle.sheet.proofs.Filling.{Filled, filled-turn}
+use Rattle.tally.proofs.Tables.{getD-tabulate}
+use Rattle.tally.proofs.Bits.{low, high}
+use Rattle.tally.proofs.Those.{those-cut, those-none, those-in, those-head}
+use Rattle.tally.proofs.Sending.{sends-none, from-nowhere, from-beyond}
+use Rattle.tally.proofs.Filling.{Filled, filled-turn}
 
 -- ---- one bit more
 

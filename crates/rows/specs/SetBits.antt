@@ -5,7 +5,7 @@ use mathlib.Core.List.{List, [], _∷_, _++_}
 use lib.Dec.{eqb}
 use lib.ListN.{getD}
 use Rattle.sheet.specs.Sheet.{mostRounds}
-use Rattle.sheet.specs.Tables.{tabulate}
+use Rattle.tally.specs.Tables.{tabulate}
 
 -- the places of the bits that are set among n, the lowest first, from place a up
 unfoldable pub setFrom : (a n w : ℕ) → List ℕ

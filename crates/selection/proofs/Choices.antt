@@ -5,13 +5,14 @@ use mathlib.Core.List.{List, [], _∷_}
 use native.Mathlib.Omega.{arith}
 use lib.Dec.{eqb, ltb}
 use lib.ListN.{length, getD}
-use Rattle.laws.proofs.Lists.{All, all-none, all-more}
+use Rattle.probability.proofs.Lists.{All, all-none, all-more}
 use Rattle.round.proofs.Laws.{outcome-between}
 use Rattle.sheet.specs.Sheet.{mostRounds, Lift}
-use Rattle.sheet.specs.Rounds.{named, inUse, ofRound}
-use Rattle.sheet.specs.Law.{Listed, Fit}
-use Rattle.sheet.specs.declared.Side.the-variants.{New}
-use Rattle.sheet.proofs.Those.{Rising, those-few, those-rise}
+use Rattle.tally.specs.Rounds.{named, inUse, ofRound}
+use Rattle.sheet.specs.Law.{Listed}
+use Rattle.tally.specs.Law.{Fit}
+use Rattle.sheet.specs.Lift.{New}
+use Rattle.tally.proofs.Those.{Rising, those-few, those-rise}
 use Rattle.selection.specs.Choice.{heldIn, liftAt, nobody, Choice}
 use Rattle.selection.proofs.Steps.{Steps, none, some}
 

@@ -8,7 +8,7 @@ use native.Mathlib.Omega.{arith}
 use lib.Dec.{eqb}
 use lib.ListN.{getD}
 use borrow.Author.Tests.{eqb-true, eq-eqb}
-use Rattle.laws.proofs.Lists.{all-getD}
+use Rattle.probability.proofs.Lists.{all-getD}
 use Rattle.draw.specs.Draw.{largest}
 use Rattle.draw.specs.Run.{finished, run}
 use Rattle.draw.proofs.Runs.{run-every}
@@ -16,15 +16,15 @@ use Rattle.round.specs.Round.{liftAt as roundLiftAt, S, Donate, Weight, oldWeig
 use Rattle.round.specs.Choice.{Selection}
 use Rattle.round.specs.Law.{Weighty}
 use Rattle.round.specs.Rows.{lift}
-use Rattle.laws.specs.Initial.{Initial, here, elsewhere}
+use Rattle.probability.specs.Initial.{Initial, here, elsewhere}
 use Rattle.round.specs.Share.{heldOf}
 use Rattle.round.specs.declared.Donors.{Donors}
 use Rattle.round.specs.declared.Lift.{Lift as RoundLift}
 use Rattle.round.proofs.Laws.{lawful}
 use Rattle.sheet.specs.Sheet.{mostRounds, Lift}
-use Rattle.sheet.specs.Law.{Fit}
-use Rattle.sheet.specs.declared.Side.the-variants.{Old, New}
-use Rattle.sheet.specs.Rounds.{placeAt, named, sumOf, donors, ofRound, donorNumber, further, heldAt}
+use Rattle.tally.specs.Law.{Fit}
+use Rattle.sheet.specs.Lift.{Old, New, placeAt}
+use Rattle.tally.specs.Rounds.{named, sumOf, donors, ofRound, donorNumber, further, heldAt}
 use Rattle.selection.specs.Choice.{withSums, donorsOf, inRound, liftsOf, heldAmong, heldIn, planOf, nobody, liftAt}
 use Rattle.selection.proofs.Held.{proper}
 use Rattle.selection.proofs.Flags.{ofRound-all}

@@ -6,9 +6,9 @@ use native.Mathlib.Omega.{arith}
 use lib.Dec.{ltb}
 use lib.ListN.{length, getD, length-map}
 use borrow.Author.Tests.{ltb-true}
-use Rattle.laws.specs.Fraction.{Fraction, _//_, _≈_}
-use Rattle.laws.specs.Plan.{paths, weight}
-use Rattle.laws.proofs.Fractions.{≈-sym, ≈-trans}
+use Rattle.probability.specs.Fraction.{Fraction, _//_, _≈_}
+use Rattle.probability.specs.Plan.{paths, weight}
+use Rattle.probability.proofs.Fractions.{≈-sym, ≈-trans}
 use Rattle.round.specs.Round.{liftAt as roundLiftAt, U, D, weights}
 use Rattle.round.specs.Choice.{plan, isHeld}
 use Rattle.round.specs.Share.{chooses, share as roundShare}
@@ -18,10 +18,10 @@ use Rattle.round.specs.declared.Donors.the-variants.{One}
 use Rattle.round.proofs.Shares.{shares as round-shares}
 use Rattle.round.proofs.Keeping.{best-≈, keeps as round-keeps}
 use Rattle.sheet.specs.Sheet.{mostRounds, Lift, sheetOf}
-use Rattle.sheet.specs.Law.{Fit}
-use Rattle.sheet.specs.declared.Side.the-variants.{Old, New}
-use Rattle.sheet.proofs.Those.{those-in}
-use Rattle.sheet.specs.Rounds.{placeAt, named, inUse, sumOf, donors, ofRound, donorNumber}
+use Rattle.tally.specs.Law.{Fit}
+use Rattle.sheet.specs.Lift.{Old, New, placeAt}
+use Rattle.tally.proofs.Those.{those-in}
+use Rattle.tally.specs.Rounds.{named, inUse, sumOf, donors, ofRound, donorNumber}
 use Rattle.selection.specs.Choice.{donorsOf, inRound, liftsOf, heldIn, planOf, nobody, liftAt}
 use Rattle.selection.specs.Initial.{marked}
 use Rattle.selection.specs.Fair.{share, kept, FairTheorem}

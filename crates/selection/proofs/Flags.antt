@@ -9,16 +9,17 @@ use native.Mathlib.Omega.{arith}
 use lib.Dec.{eqb, leb, eqb·suc-zero, eqb·zero-suc, eqb·suc-suc}
 use lib.ListN.{length, getD}
 use borrow.Author.Tests.{eqb-true, leb-false, eq-eqb, lt-ltb}
-use Rattle.laws.specs.Sum.{totalBy, indicator}
-use Rattle.laws.proofs.Lists.{All, all-none, all-keep, all-getD}
+use Rattle.probability.specs.Sum.{totalBy, indicator}
+use Rattle.probability.proofs.Lists.{All, all-none, all-keep, all-getD}
 use Rattle.round.specs.Choice.{isHeld}
-use Rattle.laws.specs.Initial.{Initial, here, elsewhere}
+use Rattle.probability.specs.Initial.{Initial, here, elsewhere}
 use Rattle.round.specs.Share.{heldOf}
 use Rattle.sheet.specs.Sheet.{mostRounds, Lift}
-use Rattle.sheet.specs.Law.{Listed, Fit}
-use Rattle.sheet.proofs.Sending.{at-most-two}
-use Rattle.sheet.proofs.Those.{those-has}
-use Rattle.sheet.specs.Rounds.{comes, sends, donors, ofRound, heldIn as heldCount, further, heldAt}
+use Rattle.sheet.specs.Law.{Listed}
+use Rattle.tally.specs.Law.{Fit}
+use Rattle.tally.proofs.Sending.{at-most-two}
+use Rattle.tally.proofs.Those.{those-has}
+use Rattle.tally.specs.Rounds.{comes, sends, donors, ofRound, heldIn as heldCount, further, heldAt}
 use Rattle.selection.specs.Choice.{heldAmong, heldIn, nobody, liftAt}
 use Rattle.selection.proofs.Sums.{ofRound-le}
 use Rattle.selection.proofs.Held.{proper, somewhere, held-one}

@@ -6,15 +6,15 @@ use mathlib.Core.List.{List, [], _∷_, map, List·Memᴰ}
 use native.Mathlib.Omega.{arith}
 use lib.ListN.{length, getD, drop}
 use lib.Seq.{slice}
-use Rattle.laws.specs.Plan.{Path, paths}
+use Rattle.probability.specs.Plan.{Path, paths}
 use Rattle.draw.specs.Draw.{largest}
 use Rattle.draw.specs.Run.{finished, run}
 use Rattle.draw.proofs.Runs.{follows}
 use Rattle.round.specs.Choice.{Selection, outcome}
 use Rattle.sheet.specs.Sheet.{Lift, lifts}
-use Rattle.sheet.specs.Rounds.{inUse}
-use Rattle.sheet.specs.Reply.{replied}
-use Rattle.sheet.specs.declared.Side.the-variants.{New}
+use Rattle.tally.specs.Rounds.{inUse}
+use Rattle.reply.specs.Reply.{replied}
+use Rattle.sheet.specs.Lift.{New}
 use Rattle.selection.specs.Choice.{heldIn, planOf, liftAt, Choice, chosen, panel, reply, pair, written, output}
 use Rattle.selection.specs.Fair.{draws}
 use Rattle.selection.proofs.Replies.{ran}

@@ -9,15 +9,16 @@ use native.Mathlib.Omega.{arith}
 use lib.Dec.{eqb, ltb, leb}
 use lib.ListN.{length}
 use borrow.Author.Tests.{eqb-true, leb-true, leb-false, ltb-false}
-use Rattle.laws.specs.Sum.{over, total, indicator}
-use Rattle.laws.proofs.Lists.{All, all-none, all-more, all-getD}
-use Rattle.laws.proofs.Sums.{indicator-le, over-ext, Σ-totalBy, totalBy-none, totalBy-le}
+use Rattle.probability.specs.Sum.{over, total, indicator}
+use Rattle.probability.proofs.Lists.{All, all-none, all-more, all-getD}
+use Rattle.probability.proofs.Sums.{indicator-le, over-ext, Σ-totalBy, totalBy-none, totalBy-le}
 use Rattle.sheet.specs.Sheet.{mostRounds, longest, Lift, written, sheetOf, word, heldKind, endKind}
-use Rattle.sheet.specs.Rounds.{named, inUse, heldIn as heldCount}
-use Rattle.sheet.specs.Refusal.{unheld}
-use Rattle.sheet.specs.Law.{Proper, Listed, Nowhere, Fit}
-use Rattle.sheet.specs.declared.Side.the-variants.{Old}
-use Rattle.sheet.proofs.Those.{those-count, those-few}
+use Rattle.tally.specs.Rounds.{named, inUse, heldIn as heldCount}
+use Rattle.tally.specs.Verdict.{unheld}
+use Rattle.sheet.specs.Law.{Proper, Listed}
+use Rattle.tally.specs.Law.{Nowhere, Fit}
+use Rattle.sheet.specs.Lift.{Old}
+use Rattle.tally.proofs.Those.{those-count, those-few}
 use Rattle.selection.specs.Choice.{nobody}
 
 -- ---- lifts by their old rounds

@@ -7,17 +7,18 @@ use native.Mathlib.Omega.{arith}
 use lib.Dec.{eqb, ltb}
 use lib.ListN.{length}
 use borrow.Author.Tests.{eq-eqb}
-use Rattle.laws.specs.Sum.{totalBy, indicator}
-use Rattle.laws.proofs.Lists.{All}
+use Rattle.probability.specs.Sum.{totalBy, indicator}
+use Rattle.probability.proofs.Lists.{All}
 use Rattle.round.specs.Choice.{isHeld}
 use Rattle.sheet.specs.Sheet.{mostRounds, Lift, lifts, sheetOf}
-use Rattle.sheet.specs.Rounds.{named, inUse, donors, heldIn as heldCount}
-use Rattle.sheet.specs.Refusal.{fits, unheld, oversize, unmeasured, crowded, verdict}
-use Rattle.sheet.specs.Law.{Listed, Listable, Nowhere, Fit}
-use Rattle.sheet.specs.declared.Side.the-variants.{Old, New}
-use Rattle.sheet.proofs.Those.{those-has, those-once}
+use Rattle.tally.specs.Rounds.{named, inUse, donors, heldIn as heldCount}
+use Rattle.tally.specs.Verdict.{fits, unheld, oversize, unmeasured, crowded, verdict}
+use Rattle.sheet.specs.Law.{Listed, Listable}
+use Rattle.tally.specs.Law.{Nowhere, Fit}
+use Rattle.sheet.specs.Lift.{Old, New}
+use Rattle.tally.proofs.Those.{those-has, those-once}
 use Rattle.sheet.proofs.Trips.{written-theorem}
-use Rattle.sheet.proofs.Verdicts.{decided, fits-sheet}
+use Rattle.tally.proofs.Verdicts.{decided, fits-sheet}
 use Rattle.selection.specs.Choice.{heldIn, liftAt}
 use Rattle.selection.specs.Initial.{selections, names, marked}
 use Rattle.selection.proofs.Marks.{named-marked, sumOf-marked, inUse-marked, donors-marked, length-marked}

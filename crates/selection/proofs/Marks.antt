@@ -5,12 +5,11 @@ use mathlib.Core.Bool.{Bool, true, false, cond, _||_}
 use mathlib.Core.List.{List, [], _∷_, map-map}
 use lib.Dec.{eqb, ltb}
 use lib.ListN.{length, length-map}
-use Rattle.laws.specs.Sum.{totalBy}
+use Rattle.probability.specs.Sum.{totalBy}
 use Rattle.sheet.specs.Sheet.{mostRounds, Lift}
-use Rattle.sheet.specs.declared.Side.{Side}
-use Rattle.sheet.specs.declared.Side.the-variants.{Old, New}
-use Rattle.sheet.proofs.Those.{those-ext}
-use Rattle.sheet.specs.Rounds.{placeAt, named, inUse, sumOf, comes, sends, donors, ofRound, donorNumber}
+use Rattle.sheet.specs.Lift.{Side, Old, New, placeAt}
+use Rattle.tally.proofs.Those.{those-ext}
+use Rattle.tally.specs.Rounds.{named, inUse, sumOf, comes, sends, donors, ofRound, donorNumber}
 use Rattle.selection.specs.Choice.{withSums, donorsOf, inRound, liftsOf}
 use Rattle.selection.specs.Initial.{holding, marked}
 

@@ -9,13 +9,13 @@ use native.Mathlib.Omega.{arith}
 use lib.Dec.{eqb, ltb}
 use lib.ListN.{length, getD}
 use borrow.Author.Tests.{eqb-true, ltb-false}
-use Rattle.laws.specs.Sum.{over, valueBy}
-use Rattle.laws.specs.Fraction.{Fraction, _//_, _⊕_, _⊗_, _≈_, sum, sumOver}
-use Rattle.laws.proofs.Sums.{Σ-map, totalBy-map}
-use Rattle.laws.proofs.Fractions.{pos-right, ≈-refl, ≈-trans, ≈-num, ⊕-≈, ⊗-assoc, ⊗-≈, sumOver-++, sumOver-map, sumOver-part, sum-≈, sum-same, sum-right}
+use Rattle.probability.specs.Sum.{over, valueBy}
+use Rattle.probability.specs.Fraction.{Fraction, _//_, _⊕_, _⊗_, _≈_, sum, sumOver}
+use Rattle.probability.proofs.Sums.{Σ-map, totalBy-map}
+use Rattle.probability.proofs.Fractions.{pos-right, ≈-refl, ≈-trans, ≈-num, ⊕-≈, ⊗-assoc, ⊗-≈, sumOver-++, sumOver-map, sumOver-part, sum-≈, sum-same, sum-right}
 use Rattle.sheet.specs.Sheet.{Lift}
-use Rattle.sheet.specs.Rounds.{those, sumOf}
-use Rattle.sheet.specs.declared.Side.the-variants.{Old}
+use Rattle.tally.specs.Rounds.{those, sumOf}
+use Rattle.sheet.specs.Lift.{Old}
 use Rattle.selection.specs.Choice.{nobody}
 use Rattle.selection.specs.Initial.{eligible, each, selectionsFrom, product, odds}
 

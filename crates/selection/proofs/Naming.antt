@@ -7,10 +7,10 @@ use mathlib.Core.Logic.{_⊎_, inl, inr}
 use native.Mathlib.Omega.{arith}
 use lib.Dec.{eqb, ltb}
 use borrow.Author.Tests.{eqb-true, eq-eqb, ne-eqb, ltb-true}
-use Rattle.laws.specs.Among.{among}
-use Rattle.laws.specs.Sum.{totalBy, indicator}
-use Rattle.laws.proofs.Lists.{All, all-none, all-more, all-keep, all-append, all-map}
-use Rattle.laws.proofs.Sums.{totalBy-none, totalBy-sum, totalBy-le}
+use Rattle.probability.specs.Among.{among}
+use Rattle.probability.specs.Sum.{totalBy, indicator}
+use Rattle.probability.proofs.Lists.{All, all-none, all-more, all-keep, all-append, all-map}
+use Rattle.probability.proofs.Sums.{totalBy-none, totalBy-sum, totalBy-le}
 use Rattle.sheet.specs.Sheet.{Lift}
 use Rattle.sheet.specs.Law.{Listed}
 use Rattle.selection.specs.Initial.{eligible, each, selectionsFrom, names}

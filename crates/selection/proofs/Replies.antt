@@ -8,12 +8,11 @@ use lib.Dec.{ltb}
 use lib.ListN.{length}
 use borrow.Author.Tests.{ltb-false}
 use Rattle.sheet.specs.Sheet.{lifts}
-use Rattle.sheet.specs.Reading.{numbered}
-use Rattle.sheet.specs.Refusal.{Verdict, refused, fits, verdict}
-use Rattle.sheet.specs.Reply.{ofRefusal, replied}
-use Rattle.sheet.specs.Law.{Fit}
-use Rattle.sheet.proofs.Verdicts.{decided, fit}
-use Rattle.selection.specs.Choice.{Choice, Panel, chosen, short, panel, ofPanel, ofLent, ofVerdict, reply}
+use Rattle.reply.specs.Reply.{numbered, ofRefusal, replied}
+use Rattle.tally.specs.Verdict.{Verdict, refused, fits, verdict, ofVerdict}
+use Rattle.tally.specs.Law.{Fit}
+use Rattle.tally.proofs.Verdicts.{decided, fit}
+use Rattle.selection.specs.Choice.{Choice, Panel, chosen, short, panel, ofPanel, ofLent, reply}
 
 -- the choices of a run, their number, and the words that were read
 pub record Ran (sheet ws : List ℕ) (start n k : ℕ) : Type 0 where

@@ -7,18 +7,18 @@ use native.Mathlib.Omega.{arith}
 use lib.Dec.{eqb}
 use lib.ListN.{length, length-map}
 use borrow.Author.Tests.{eqb-true, eqb-false, lt-ltb, ltb-false, leb-false}
-use Rattle.laws.proofs.Tests.{eqb-comm}
+use Rattle.probability.proofs.Tests.{eqb-comm}
 use Rattle.round.specs.Round.{S, Sends, Donate, Fitting as RoundFitting}
-use Rattle.laws.specs.Initial.{Initial, here, elsewhere}
+use Rattle.probability.specs.Initial.{Initial, here, elsewhere}
 use Rattle.round.specs.Share.{heldOf}
 use Rattle.round.specs.declared.Donors.the-variants.{One, Two}
 use Rattle.round.specs.Rows.{Stands, Bounded, SumsBounded}
 use Rattle.sheet.specs.Sheet.{mostRounds, largestSum, Lift}
-use Rattle.sheet.specs.Law.{Fit}
-use Rattle.sheet.specs.declared.Side.the-variants.{Old, New}
-use Rattle.sheet.proofs.Sending.{at-most-two}
-use Rattle.sheet.proofs.Those.{those-head}
-use Rattle.sheet.specs.Rounds.{named, sumOf, sends, donors, ofRound, donorNumber, further, heldAt}
+use Rattle.tally.specs.Law.{Fit}
+use Rattle.sheet.specs.Lift.{Old, New}
+use Rattle.tally.proofs.Sending.{at-most-two}
+use Rattle.tally.proofs.Those.{those-head}
+use Rattle.tally.specs.Rounds.{named, sumOf, sends, donors, ofRound, donorNumber, further, heldAt}
 use Rattle.selection.specs.Choice.{withSums, donorsOf, inRound, liftsOf, heldAmong, heldIn}
 use Rattle.selection.proofs.Sums.{S-sum, U-sum, ofRound-le, sends-some}
 

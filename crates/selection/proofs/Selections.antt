@@ -7,20 +7,21 @@ use native.Mathlib.Omega.{arith}
 use lib.Dec.{eqb, ltb, leb}
 use lib.ListN.{length}
 use borrow.Author.Tests.{eqb-true, leb-false, lt-ltb, not-false}
-use Rattle.laws.specs.Sum.{totalBy, indicator}
-use Rattle.laws.specs.Fraction.{Fraction, _//_, _≈_}
-use Rattle.laws.proofs.Fractions.{≈-refl, ≈-trans}
-use Rattle.laws.specs.Initial.{Initial, elsewhere}
+use Rattle.probability.specs.Sum.{totalBy, indicator}
+use Rattle.probability.specs.Fraction.{Fraction, _//_, _≈_}
+use Rattle.probability.proofs.Fractions.{≈-refl, ≈-trans}
+use Rattle.probability.specs.Initial.{Initial, elsewhere}
 use Rattle.round.specs.Share.{heldOf, overInitial, overHeld}
 use Rattle.round.specs.declared.Held.{Held}
 use Rattle.round.specs.declared.Held.the-variants.{Neither}
 use Rattle.round.proofs.Initials.{initial-den}
 use Rattle.sheet.specs.Sheet.{mostRounds, Lift}
-use Rattle.sheet.specs.Law.{Listed, Fit}
-use Rattle.sheet.specs.declared.Side.the-variants.{Old}
-use Rattle.sheet.proofs.Sending.{at-most-two}
-use Rattle.sheet.proofs.Those.{those-none, Rising, those-rise}
-use Rattle.sheet.specs.Rounds.{named, sumOf, heldIn as heldCount, sends, donors, ofRound, donorNumber, heldAt}
+use Rattle.sheet.specs.Law.{Listed}
+use Rattle.tally.specs.Law.{Fit}
+use Rattle.sheet.specs.Lift.{Old}
+use Rattle.tally.proofs.Sending.{at-most-two}
+use Rattle.tally.proofs.Those.{those-none, Rising, those-rise}
+use Rattle.tally.specs.Rounds.{named, sumOf, heldIn as heldCount, sends, donors, ofRound, donorNumber, heldAt}
 use Rattle.selection.specs.Choice.{withSums, donorsOf, inRound, liftsOf, heldAmong, heldIn}
 use Rattle.selection.specs.Initial.{marked, odds, overSelections}
 use Rattle.selection.proofs.Marks.{sends-marked, ofRound-marked}

@@ -8,17 +8,17 @@ use native.Mathlib.Omega.{arith}
 use lib.Dec.{eqb}
 use lib.ListN.{length}
 use borrow.Author.Tests.{eqb-true, eq-eqb, ne-eqb}
-use Rattle.laws.specs.Among.{among}
-use Rattle.laws.specs.Sum.{over, totalBy}
-use Rattle.laws.specs.Fraction.{Fraction, _//_, _⊕_, _⊗_, _≈_, sum}
-use Rattle.laws.proofs.Fractions.{pos-left, ≈-refl, ≈-trans, ⊕-assoc, ⊕-≈}
+use Rattle.probability.specs.Among.{among}
+use Rattle.probability.specs.Sum.{over, totalBy}
+use Rattle.probability.specs.Fraction.{Fraction, _//_, _⊕_, _⊗_, _≈_, sum}
+use Rattle.probability.proofs.Fractions.{pos-left, ≈-refl, ≈-trans, ⊕-assoc, ⊕-≈}
 use Rattle.round.specs.Round.{liftAt, sent, U}
-use Rattle.laws.specs.Initial.{Initial, here, elsewhere}
+use Rattle.probability.specs.Initial.{Initial, here, elsewhere}
 use Rattle.round.specs.declared.Lift.{Lift as RoundLift}
 use Rattle.sheet.specs.Sheet.{Lift}
 use Rattle.sheet.specs.Law.{Listed}
-use Rattle.sheet.specs.declared.Side.the-variants.{Old}
-use Rattle.sheet.specs.Rounds.{sumOf, ofRound, further, heldAt}
+use Rattle.sheet.specs.Lift.{Old}
+use Rattle.tally.specs.Rounds.{sumOf, ofRound, further, heldAt}
 use Rattle.selection.specs.Choice.{inRound}
 use Rattle.selection.specs.Initial.{names, marked}
 use Rattle.selection.proofs.Sums.{U-sum, ofRound-le}

@@ -6,11 +6,11 @@ use mathlib.Core.List.{List, [], _∷_, map}
 use native.Mathlib.Omega.{arith}
 use lib.Dec.{eqb, ltb}
 use borrow.Author.Tests.{ltb-true}
-use Rattle.laws.specs.Sum.{total, valueBy, totalBy}
+use Rattle.probability.specs.Sum.{total, valueBy, totalBy}
 use Rattle.round.specs.Round.{S, U}
 use Rattle.sheet.specs.Sheet.{Lift}
-use Rattle.sheet.specs.Rounds.{placeAt, sumOf, sends, ofRound}
-use Rattle.sheet.specs.declared.Side.the-variants.{Old, New}
+use Rattle.sheet.specs.Lift.{placeAt, Old, New}
+use Rattle.tally.specs.Rounds.{sumOf, sends, ofRound}
 use Rattle.selection.specs.Choice.{inRound}
 
 -- S is the new sum, however donors are numbered

@@ -5,13 +5,13 @@ use mathlib.Core.Bool.{Bool}
 use mathlib.Core.List.{List, [], _∷_, _++_, map, List·Memᴰ}
 use native.Mathlib.Nat.{mul-pos}
 use native.Mathlib.Omega.{arith}
-use Rattle.laws.specs.Sum.{over, indicator}
-use Rattle.laws.specs.Fraction.{Fraction, _//_, _⊗_, sumOver}
-use Rattle.laws.specs.Plan.{Plan, done, draw, Path, drew, paths, weight}
-use Rattle.laws.proofs.Fractions.{sumOver-ext}
+use Rattle.probability.specs.Sum.{over, indicator}
+use Rattle.probability.specs.Fraction.{Fraction, _//_, _⊗_, sumOver}
+use Rattle.probability.specs.Plan.{Plan, done, draw, Path, drew, paths, weight}
+use Rattle.probability.proofs.Fractions.{sumOver-ext}
 use Rattle.sheet.specs.Sheet.{Lift}
-use Rattle.sheet.specs.Rounds.{inUse}
-use Rattle.sheet.specs.declared.Side.the-variants.{Old}
+use Rattle.tally.specs.Rounds.{inUse}
+use Rattle.sheet.specs.Lift.{Old}
 use Rattle.selection.specs.Initial.{selections, marked, odds, overSelections}
 
 -- the mean of f and of g, where they agree on every marked list

@@ -1,37 +1,37 @@
 -- The document's cases, and the exact shares and keeping of small sheets, computed.
 use mathlib.Core.Path.{_≡_, refl}
 use mathlib.Core.Bool.{true}
-use Rattle.laws.specs.Same.{allRight}
-use Rattle.laws.specs.Among.{among}
-use Rattle.laws.specs.Sum.{over, total, totalBy}
-use Rattle.laws.specs.Interval.{pick}
-use Rattle.laws.specs.Fraction.{sumOver}
-use Rattle.laws.specs.Plan.{after, paths, weight}
+use Rattle.probability.specs.Table.{allRight}
+use Rattle.probability.specs.Among.{among}
+use Rattle.probability.specs.Sum.{over, total, totalBy}
+use Rattle.probability.specs.Interval.{pick}
+use Rattle.probability.specs.Fraction.{sumOver}
+use Rattle.probability.specs.Plan.{after, paths, weight}
 use Rattle.draw.specs.Draw.{drawFrom}
 use Rattle.draw.specs.Run.{run}
 use Rattle.round.specs.Round.{S, U, D, oldWeight, newWeight, weights, G}
 use Rattle.round.specs.Choice.{drawPlace, firstOdds, preliminaryBy, stayOr, keyfitz, select, plan, outcome}
 use Rattle.sheet.specs.Sheet.{lifts, written as writtenLifts}
 use Rattle.sheet.specs.Reading.{fault, readFrom}
-use Rattle.sheet.specs.Refusal.{firstRound, ofRounds, verdict}
-use Rattle.sheet.specs.Rounds.{those, sends, ofRound, heldAt}
+use Rattle.tally.specs.Verdict.{firstRound, ofRounds, verdict}
+use Rattle.tally.specs.Rounds.{those, sends, ofRound, heldAt}
 use Rattle.selection.specs.Choice.{donorsOf, liftsOf, heldIn, planOf, liftAt, panelFrom, reply, written, output}
 use Rattle.selection.specs.Initial.{eligible, each, selectionsFrom, marked, product, odds, overSelections}
 use Rattle.selection.specs.Fair.{share, kept}
-use Rattle.selection.specs.Worked.{cases, silentCases, right, rightShares, rightKeeping}
+use Rattle.selection.specs.Worked.{cases, silentCases, shareCases, keepingCases}
 
-pub all-right : allRight right cases ≡ true
+pub all-right : allRight cases ≡ true
 unfolding total totalBy pick after drawFrom run S U D oldWeight newWeight weights G drawPlace firstOdds preliminaryBy stayOr keyfitz select plan outcome lifts writtenLifts fault readFrom those sends ofRound firstRound ofRounds verdict donorsOf liftsOf heldAt heldIn planOf liftAt panelFrom reply written output
 all-right = refl
 
-pub silent-right : allRight right silentCases ≡ true
+pub silent-right : allRight silentCases ≡ true
 unfolding total totalBy pick after drawFrom run S U D oldWeight newWeight weights G drawPlace firstOdds preliminaryBy stayOr keyfitz select plan outcome lifts writtenLifts fault readFrom those sends ofRound firstRound ofRounds verdict donorsOf liftsOf heldAt heldIn planOf liftAt panelFrom reply written output
 silent-right = refl
 
-pub exact-shares : rightShares ≡ true
+pub exact-shares : allRight shareCases ≡ true
 unfolding over total totalBy pick after paths sumOver weight S U D oldWeight newWeight weights G drawPlace firstOdds preliminaryBy stayOr keyfitz select plan those sends ofRound donorsOf liftsOf heldAt heldIn planOf liftAt eligible each selectionsFrom among marked product odds overSelections share
 exact-shares = refl
 
-pub exact-keeping : rightKeeping ≡ true
+pub exact-keeping : allRight keepingCases ≡ true
 unfolding over total totalBy pick after paths sumOver weight S U D oldWeight newWeight weights G drawPlace firstOdds preliminaryBy stayOr keyfitz select plan those sends ofRound donorsOf liftsOf heldAt heldIn planOf liftAt eligible each selectionsFrom among marked product odds overSelections kept
 exact-keeping = refl

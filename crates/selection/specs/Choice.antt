@@ -5,12 +5,12 @@ use mathlib.Core.Bool.{cond, false}
 use mathlib.Core.List.{List, [], _∷_, _++_, map}
 use lib.Dec.{ltb}
 use lib.ListN.{length, getD, set, drop}
-use Rattle.laws.specs.Plan.{Plan}
+use Rattle.probability.specs.Plan.{Plan}
 use Rattle.draw.specs.Draw.{largest}
 use Rattle.draw.specs.Run.{Run, finished, short as ended, run}
 use Rattle.round.specs.Rows.{lift}
 use Rattle.round.specs.Choice.{Selection, plan, outcome}
-use Rattle.laws.specs.Initial.{Initial, elsewhere}
+use Rattle.probability.specs.Initial.{Initial, elsewhere}
 use Rattle.round.specs.Share.{heldOf}
 use Rattle.round.specs.declared.Donors.{Donors}
 use Rattle.round.specs.declared.Donors.the-variants.{None, One, Two}
@@ -18,11 +18,10 @@ use Rattle.round.specs.declared.Held.{Held}
 use Rattle.round.specs.declared.Held.the-variants.{Neither}
 use Rattle.round.specs.declared.Lift.{Lift as RoundLift}
 use Rattle.sheet.specs.Sheet.{Lift, lifts, word}
-use Rattle.sheet.specs.Reading.{numbered}
-use Rattle.sheet.specs.Rounds.{placeAt, inUse, sumOf, donors, donorNumber, ofRound, heldAt}
-use Rattle.sheet.specs.Refusal.{Verdict, refused, fits, verdict}
-use Rattle.sheet.specs.Reply.{Reply, replied, ofRefusal, unlessRefused}
-use Rattle.sheet.specs.declared.Side.the-variants.{Old, New}
+use Rattle.reply.specs.Reply.{numbered, Reply, replied, ofRefusal, unlessRefused}
+use Rattle.sheet.specs.Lift.{placeAt, Old, New}
+use Rattle.tally.specs.Rounds.{inUse, sumOf, donors, donorNumber, ofRound, heldAt}
+use Rattle.tally.specs.Verdict.{verdict, ofVerdict}
 
 -- ---- one round of a sheet
 
@@ -118,11 +117,6 @@ unlessLacking rounds words start room otherwise =
 
 abbrev pub ofLent : List Lift → ℕ → List ℕ → ℕ → ℕ → Reply
 ofLent ls rounds ws start room = unlessLacking rounds (length ws) start room (ofPanel start (panel ls ws start))
-
--- the reply of a refused sheet, or what follows from the new rounds of a fitting one
-abbrev pub ofVerdict : Verdict → (ℕ → Reply) → Reply
-ofVerdict (refused x) reply = ofRefusal x
-ofVerdict (fits n rounds) reply = reply rounds
 
 -- the reply to a sheet, random words, a start position and an output of so many words
 unfoldable pub reply : List ℕ → List ℕ → ℕ → ℕ → Reply

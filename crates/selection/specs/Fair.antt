@@ -4,18 +4,18 @@ use mathlib.Core.Path.{_≡_}
 use mathlib.Core.List.{List, [], _∷_, map, List·Memᴰ}
 use lib.ListN.{length, getD}
 use lib.Seq.{slice}
-use Rattle.laws.specs.Fraction.{Fraction, _//_, _≈_}
-use Rattle.laws.specs.Plan.{Path, paths, weight}
+use Rattle.probability.specs.Fraction.{Fraction, _//_, _≈_}
+use Rattle.probability.specs.Plan.{Path, paths, weight}
 use Rattle.round.specs.Round.{U, D, weights}
 use Rattle.round.specs.Choice.{Selection, outcome}
 use Rattle.round.specs.Share.{chooses}
 use Rattle.round.specs.Keep.{Best}
 use Rattle.sheet.specs.Sheet.{Lift, sheetOf}
-use Rattle.sheet.specs.Rounds.{placeAt, inUse, sumOf, donors, ofRound}
-use Rattle.sheet.specs.Refusal.{fits, verdict}
-use Rattle.sheet.specs.Reply.{replied}
-use Rattle.sheet.specs.Law.{Fit}
-use Rattle.sheet.specs.declared.Side.the-variants.{Old, New}
+use Rattle.sheet.specs.Lift.{placeAt, Old, New}
+use Rattle.tally.specs.Rounds.{inUse, sumOf, donors, ofRound}
+use Rattle.tally.specs.Verdict.{fits, verdict}
+use Rattle.reply.specs.Reply.{replied}
+use Rattle.tally.specs.Law.{Fit}
 use Rattle.selection.specs.Choice.{donorsOf, liftsOf, heldIn, planOf, liftAt, Panel, chosen, short, panel, reply, pair, output}
 use Rattle.selection.specs.Initial.{selections, marked, overSelections}
 

@@ -4,11 +4,11 @@ use Prim.Native.Nat.{ℕ, _*_}
 use mathlib.Core.Bool.{Bool, cond, _&&_}
 use mathlib.Core.List.{List, [], _∷_, _++_, map}
 use lib.Dec.{eqb, ltb}
-use Rattle.laws.specs.Among.{among}
-use Rattle.laws.specs.Fraction.{Fraction, _//_, _⊗_, sumOver}
+use Rattle.probability.specs.Among.{among}
+use Rattle.probability.specs.Fraction.{Fraction, _//_, _⊗_, sumOver}
 use Rattle.sheet.specs.Sheet.{Lift}
-use Rattle.sheet.specs.Rounds.{inUse, sumOf}
-use Rattle.sheet.specs.declared.Side.the-variants.{Old}
+use Rattle.tally.specs.Rounds.{inUse, sumOf}
+use Rattle.sheet.specs.Lift.{Old}
 
 -- the lifts of old round t that can be held: of old measure above 0
 unfoldable pub eligible : ℕ → List Lift → List Lift

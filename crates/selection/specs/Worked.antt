@@ -6,40 +6,25 @@ use mathlib.Core.Bool.{Bool, true, false, not, _&&_}
 use mathlib.Core.List.{List, [], _∷_}
 use lib.Dec.{eqb}
 use lib.ListN.{length}
-use Rattle.laws.specs.Fraction.{_//_}
-use Rattle.laws.specs.Same.{same, sameFraction}
+use Rattle.probability.specs.Fraction.{_//_}
+use Rattle.probability.specs.Table.{same, sameFraction}
 use Rattle.sheet.specs.Sheet.{Lift, sheetOf}
-use Rattle.sheet.specs.Reply.{Reply, numbers}
+use Rattle.reply.specs.Reply.{Reply, numbers, sameReply}
 use Rattle.sheet.specs.Worked.{lift, example}
 use Rattle.selection.specs.Choice.{reply, output}
 use Rattle.selection.specs.Fair.{share, kept}
 
--- a sheet, random words, a start and an output, with the reply and the output after the call
-pub record Case : Type 0 where
-  pub sheet : List ℕ
-  pub words : List ℕ
-  pub start : ℕ
-  pub out : List ℕ
-  pub reply : Reply
-  pub written : List ℕ
+-- a sheet, random words, a start and an output, the reply, and the output after the call
+abbrev case : List ℕ → List ℕ → ℕ → List ℕ → Reply → List ℕ → Bool
+case sheet ws start out r after = sameReply (reply sheet ws start (length out)) r && same (output sheet ws start out) after
 
 -- one choice from the first word on, so many words read, with a word behind the pair that stays
-abbrev choice : List ℕ → List ℕ → ℕ → ℕ → ℕ → Case
-choice sheet ws read first second =
-    record { sheet = sheet; words = ws; start = 0; out = 7 ∷ 8 ∷ 9 ∷ []; reply = numbers 0 1 read; written = first ∷ second ∷ 9 ∷ [] }
+abbrev choice : List ℕ → List ℕ → ℕ → ℕ → ℕ → Bool
+choice sheet ws read first second = case sheet ws 0 (7 ∷ 8 ∷ 9 ∷ []) (numbers 0 1 read) (first ∷ second ∷ 9 ∷ [])
 
 -- a refusal: the output keeps what it had
-abbrev refused : List ℕ → List ℕ → ℕ → List ℕ → ℕ → ℕ → Case
-refused sheet ws start out n place = record { sheet = sheet; words = ws; start = start; out = out; reply = numbers n place 0; written = out }
-
-abbrev pub sameReply : Reply → Reply → Bool
-sameReply r q = eqb (r .number) (q .number) && (eqb (r .second) (q .second) && eqb (r .third) (q .third))
-
--- whether the definitions give the reply and the output
-abbrev pub right : Case → Bool
-right c =
-    sameReply (reply (c .sheet) (c .words) (c .start) (length (c .out))) (c .reply)
-    && same (output (c .sheet) (c .words) (c .start) (c .out)) (c .written)
+abbrev refused : List ℕ → List ℕ → ℕ → List ℕ → ℕ → ℕ → Bool
+refused sheet ws start out n place = case sheet ws start out (numbers n place 0) out
 
 -- "Lifts 11, 12, 13, old 2, 3, 5, new 4, 1, 5", the lift of a number held
 abbrev three : ℕ → List ℕ
@@ -62,7 +47,7 @@ noChance = sheetOf (lift 1 1 3 1 0 true ∷ lift 2 1 7 1 1 false ∷ [])
 abbrev rounds : List ℕ
 rounds = sheetOf (lift 1 1 3 3 0 true ∷ lift 2 1 7 3 1 false ∷ lift 3 0 0 70 1 false ∷ lift 4 0 0 70 1 false ∷ [])
 
-abbrev pub cases : List Case
+abbrev pub cases : List Bool
 cases =
     -- M1 to M11 in the document's order; M2 is the document's whole sheet; M11, "always dropped", for each r
     choice (three 12) (9 ∷ []) 1 0x50200001 0x6000000C
@@ -79,14 +64,8 @@ cases =
     ∷ choice noChance (1 ∷ 0 ∷ []) 2 0x50200002 0x60000002
     ∷ choice noChance (2 ∷ 0 ∷ []) 2 0x50200002 0x60000002
     -- "in rising order, each reading on where the one before stopped", from a start on; "words behind the last pair .. keep what they had"
-    ∷ record {
-      sheet = rounds;
-      words = 5 ∷ 0 ∷ 0 ∷ 1 ∷ [];
-      start = 1;
-      out = 5 ∷ 6 ∷ 7 ∷ 8 ∷ 9 ∷ [];
-      reply = numbers 0 2 3;
-      written = 0x50600002 ∷ 0x60000002 ∷ 0x58C00003 ∷ 0x60000004 ∷ 9 ∷ [];
-    }
+    ∷ case rounds (5 ∷ 0 ∷ 0 ∷ 1 ∷ []) 1 (5 ∷ 6 ∷ 7 ∷ 8 ∷ 9 ∷ [])
+    (numbers 0 2 3) (0x50600002 ∷ 0x60000002 ∷ 0x58C00003 ∷ 0x60000004 ∷ 9 ∷ [])
     -- 11 before 12, where no word is needed; 12 before 13, and where the words suffice; "13. The chance words end before a needed draw is
     -- finished. Place: the new round."
     ∷ refused (three 13) (0 ∷ []) 2 [] 11 2
@@ -103,7 +82,7 @@ cases =
 abbrev measured : ℕ → ℕ → ℕ → List ℕ
 measured a b c = sheetOf (lift 11 1 2 1 a false ∷ lift 12 1 3 1 b true ∷ lift 13 1 5 1 c false ∷ [])
 
-abbrev pub silentCases : List Case
+abbrev pub silentCases : List Bool
 silentCases =
     -- "the lift counts with its old measure": no word is read where none was counted, and none where the others' sum stays
     choice (measured 2097151 2097151 2097151) [] 0 0x50200001 0x6000000C
@@ -128,13 +107,15 @@ abbrev silent : List Lift
 silent = lift 1 1 1 1 4 true ∷ lift 2 1 2 1 2097151 false ∷ []
 
 -- each lift of each new round has exactly b over S
-abbrev pub rightShares : Bool
-rightShares =
+abbrev pub shareCases : List Bool
+shareCases =
     sameFraction (share small 1 0) (2 // 3)
-    && (sameFraction (share small 1 1) (1 // 3)
-    && (sameFraction (share small 2 0) (1 // 1)
-    && (sameFraction (share silent 1 0) (4 // 6) && sameFraction (share silent 1 1) (2 // 6))))
+    ∷ sameFraction (share small 1 1) (1 // 3)
+    ∷ sameFraction (share small 2 0) (1 // 1)
+    ∷ sameFraction (share silent 1 0) (4 // 6)
+    ∷ sameFraction (share silent 1 1) (2 // 6)
+    ∷ []
 
 -- "what the ways weigh whose lift is held in their own marking"
-abbrev pub rightKeeping : Bool
-rightKeeping = sameFraction (kept exchanged 1) (6 // 9) && sameFraction (kept silent 1) (12 // 18)
+abbrev pub keepingCases : List Bool
+keepingCases = sameFraction (kept exchanged 1) (6 // 9) ∷ sameFraction (kept silent 1) (12 // 18) ∷ []

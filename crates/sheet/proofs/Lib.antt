@@ -1,15 +1,6 @@
 pub mod Cases
 pub mod Readings
 pub mod Trips
-pub mod Lifts
 pub mod Walks
-pub mod Tables
-pub mod Bits
-pub mod Those
-pub mod Searches
-pub mod Filling
-pub mod Sending
-pub mod Surveys
-pub mod Numbers
-pub mod Verdicts
+pub mod Legibility
 pub mod Worked

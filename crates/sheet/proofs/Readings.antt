@@ -11,10 +11,10 @@ use lib.ListN.{length, getD, drop, drop-of-length-le}
 use lib.Seq.{drop-cons}
 use borrow.Author.Tests.{le-ltb, lt-leb, eq-eqb, ne-eqb, eqb-true}
 use Rattle.sheet.specs.Sheet.{mostRounds, largestSum, notCounted, kind, payload, placeOf, liftKind, oldKind, newKind, endKind}
-use Rattle.sheet.specs.Reading.{next, follows, misnumbered, isPlace, misplaced, uncountedNewcomer, miscounted, mismarked, fault, numbered, Reading, faulty, sound, unless, readFrom, reading}
-use Rattle.sheet.specs.Refusal.{toldOfWords}
-use Rattle.sheet.specs.declared.Before.{Before}
-use Rattle.sheet.specs.declared.Refusal.{Refusal}
+use Rattle.sheet.specs.Reading.{next, follows, misnumbered, isPlace, misplaced, uncountedNewcomer, miscounted, mismarked, fault, Reading, faulty, sound, unless, readFrom, reading, readingOf}
+use Rattle.reply.specs.Reply.{numbered}
+use Rattle.sheet.specs.declared.faults.ScanState.{ScanState}
+use Rattle.reply.specs.declared.Refusal.{Refusal}
 use Rattle.sheet.specs.declared.Judged.{Judged}
 use Rattle.sheet.specs.declared.Judged.the-variants.{Faulty, Sound}
 
@@ -31,7 +31,7 @@ unless-then (suc n) i rest = refl
 -- ---- a word's fault
 
 -- of a word in sequence that tells a place, and of one that tells none
-module _ (s : Before) (w : ℕ) (f : follows (s .kind) (kind w) ≡ true) where
+module _ (s : ScanState) (w : ℕ) (f : follows (s .kind) (kind w) ≡ true) where
   pub place-fault : isPlace (kind w) ≡ true → fault s w ≡ cond (misplaced w) 4 (cond (uncountedNewcomer s w) 16 0)
   unfolding fault
   place-fault h = go (eqb (kind w) oldKind) refl
@@ -74,7 +74,7 @@ module _ (k w : ℕ) (small : placeOf w .measure ≤ largestSum) where
   with-neither e = (omega arith, within (omega arith) (rw (eq-eqb (placeOf w .round) 0 (omega arith), eq-eqb (placeOf w .measure) 0 (omega arith))), small)
 
 -- words of a lift none of which is faulty
-pub sound-lift : (s : Before) (a b c : ℕ) → follows (s .kind) liftKind ≡ true → kind a ≡ liftKind → s .number < payload a → Counted oldKind b → Counted newKind c
+pub sound-lift : (s : ScanState) (a b c : ℕ) → follows (s .kind) liftKind ≡ true → kind a ≡ liftKind → s .number < payload a → Counted oldKind b → Counted newKind c
     → (fault s a ≡ 0) × (fault (next s a) b ≡ 0) × (fault (next (next s a) b) c ≡ 0)
 sound-lift s a b c f k n o p = (
   rw (other-fault s a (rw k f) (rw k), k, ne-eqb (payload a) 0 (omega arith), lt-leb (payload a) (s .number) n),
@@ -85,35 +85,35 @@ sound-lift s a b c f k n o p = (
 -- ---- the loop
 
 -- the loop's invariant: reading on from word i, with s told before it, reads the sheet, and s tells no more lifts than words
-pub record Kept (ws : List ℕ) (s : Before) (i : ℕ) : Type 0 where
+pub record Kept (ws : List ℕ) (s : ScanState) (i : ℕ) : Type 0 where
   pub same : readFrom s i (drop i ws) ≡ reading ws
   pub few : s .lifts ≤ i
 
 -- a word is at most one lift more
-pub one-more : (s : Before) (w : ℕ) {t : Before} {i : ℕ} → t ≡ next s w → s .lifts ≤ i → t .lifts ≤ i + 1
+pub one-more : (s : ScanState) (w : ℕ) {t : ScanState} {i : ℕ} → t ≡ next s w → s .lifts ≤ i → t .lifts ≤ i + 1
 one-more s w n h = rw n (more (eqb (kind w) liftKind) h)
   where
     more : (t : Bool) {n i : ℕ} → n ≤ i → cond t (n + 1) n ≤ i + 1
     more true h = omega arith
     more false h = omega arith
 
-module _ {ws : List ℕ} {s : Before} {i : ℕ} {r : Judged} where
+module _ {ws : List ℕ} {s : ScanState} {i : ℕ} {r : Judged} where
   -- a turn whose word is judged x
-  turn : {x : Judged} → i < length ws → Kept ws s i → toldOfWords r ≡ unless (fault s (getD ws i 0)) i sound → r ≡ x
-      → andThen (toldOfWords x) (readFrom (next s (getD ws i 0)) (i + 1) (drop (i + 1) ws)) ≡ reading ws
+  turn : {x : Judged} → i < length ws → Kept ws s i → readingOf r ≡ unless (fault s (getD ws i 0)) i sound → r ≡ x
+      → andThen (readingOf x) (readFrom (next s (getD ws i 0)) (i + 1) (drop (i + 1) ws)) ≡ reading ws
   unfolding readFrom
   turn h k j e = rw (← e, j, unless-then (fault s (getD ws i 0)) i, ← k .same, drop-cons ws i 0, add-one i)
 
-  pub stops : {x : Refusal} → i < length ws → Kept ws s i → toldOfWords r ≡ unless (fault s (getD ws i 0)) i sound → r ≡ Faulty x
-      → toldOfWords (Faulty x) ≡ reading ws
+  pub stops : {x : Refusal} → i < length ws → Kept ws s i → readingOf r ≡ unless (fault s (getD ws i 0)) i sound → r ≡ Faulty x
+      → readingOf (Faulty x) ≡ reading ws
   stops h k j e = turn h k j e
 
-  pub goes-on : {t : Before} → i < length ws → Kept ws s i → toldOfWords r ≡ unless (fault s (getD ws i 0)) i sound → r ≡ Sound
+  pub goes-on : {t : ScanState} → i < length ws → Kept ws s i → readingOf r ≡ unless (fault s (getD ws i 0)) i sound → r ≡ Sound
       → t ≡ next s (getD ws i 0) → Kept ws t (i + 1)
   goes-on h k j e n = record { same = rw n (turn h k j e); few = one-more s _ n (k .few) }
 
 -- three turns at once, each by a word that is not faulty
-module _ {ws : List ℕ} {s t u v : Before} {i : ℕ} where
+module _ {ws : List ℕ} {s t u v : ScanState} {i : ℕ} where
   pub goes-on-three : i + 2 < length ws → Kept ws s i
       → (fault s (getD ws i 0) ≡ 0) × (fault (next s (getD ws i 0)) (getD ws (i + 1) 0) ≡ 0) × (fault (next (next s (getD ws i 0)) (getD ws (i + 1) 0)) (getD ws (i + 2) 0) ≡ 0)
       → t ≡ next s (getD ws i 0) → u ≡ next t (getD ws (i + 1) 0) → v ≡ next u (getD ws (i + 2) 0) → Kept ws v (i + 3)
@@ -123,7 +123,7 @@ module _ {ws : List ℕ} {s t u v : Before} {i : ℕ} where
       let c : Kept ws v (i + 2 + 1) = goes-on {r = Sound} (omega arith) (rw (add-assoc i 1 1) at b) (rw (q, p, f .2)) refl r in
       rw (add-assoc i 2 1) at c
 
-module _ {ws : List ℕ} {s : Before} {i : ℕ} (past : length ws ≤ i) (kept : Kept ws s i) where
+module _ {ws : List ℕ} {s : ScanState} {i : ℕ} (past : length ws ≤ i) (kept : Kept ws s i) where
   -- past the last word the kind decides
   last : cond (eqb (s .kind) endKind) sound (faulty (numbered 2 i)) ≡ reading ws
   unfolding readFrom

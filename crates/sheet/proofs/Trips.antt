@@ -12,10 +12,10 @@ use borrow.Author.Tests.{eqb-true, eqb-false, eq-eqb, ne-eqb, leb-false, lt-leb,
 use Rattle.sheet.specs.Sheet.{mostLifts, mostRounds, largestSum, notCounted, kind, payload, liftKind, oldKind, newKind, heldKind, endKind, Place, placeOf, Lift, lifts, word, placeWord, wordsOf, written, sheetOf}
 use Rattle.sheet.specs.Reading.{start, next, follows, outOfSequence, misnumbered, isPlace, tooLarge, beyond, misplaced, uncountedNewcomer, miscounted, mismarked, fault, Reading, sound, unless, readFrom}
 use Rattle.sheet.specs.Law.{Placed, Proper, Listed, Listable, ReadTheorem, WrittenTheorem, WritablePlace, AllWritable, BackTheorem}
-use Rattle.sheet.specs.declared.Before.{Before}
+use Rattle.sheet.specs.declared.faults.ScanState.{ScanState}
 
 -- what the words before tell, from its parts
-abbrev state : ℕ → ℕ → ℕ → ℕ → Before
+abbrev state : ℕ → ℕ → ℕ → ℕ → ScanState
 state k n o c = record { kind = k; number = n; old = o; lifts = c }
 
 -- the held mark of a lift, and what follows
@@ -42,7 +42,7 @@ not-held n true h = absurd (omega arith)
 not-held n false h = (refl, h)
 
 -- what a word without a fault tells, by its kind
-record Passes (s : Before) (w : ℕ) : Type 0 where
+record Passes (s : ScanState) (w : ℕ) : Type 0 where
   order : follows (s .kind) (kind w) ≡ true
   number : kind w ≡ liftKind → s .number < payload w
   place : isPlace (kind w) ≡ true → Placed (kind w) (placeOf w)
@@ -50,7 +50,7 @@ record Passes (s : Before) (w : ℕ) : Type 0 where
   count : kind w ≡ endKind → (payload w ≡ s .lifts) × (payload w ≤ mostLifts)
   mark : kind w ≡ heldKind → (payload w ≡ 0) × (0 < placeOf (s .old) .measure)
 
-passes : (s : Before) (w : ℕ) → fault s w ≡ 0 → Passes s w
+passes : (s : ScanState) (w : ℕ) → fault s w ≡ 0 → Passes s w
 unfolding fault
 passes s w h =
     let f2 = not-held 1 (outOfSequence s w) h in
@@ -78,22 +78,22 @@ unless-sound zero i r h = (refl, h)
 unless-sound (suc n) i r h = let z : _≡_ {A = ℕ} 0 1 = cc in absurd (omega arith)
 
 -- the first of words that pass does, and those behind it
-first-passes : (s : Before) (i w : ℕ) (ws : List ℕ) → readFrom s i (w ∷ ws) ≡ sound → Passes s w × (readFrom (next s w) (i + 1) ws ≡ sound)
+first-passes : (s : ScanState) (i w : ℕ) (ws : List ℕ) → readFrom s i (w ∷ ws) ≡ sound → Passes s w × (readFrom (next s w) (i + 1) ws ≡ sound)
 unfolding readFrom
 first-passes s i w ws h = let f = unless-sound (fault s w) i (readFrom (next s w) (i + 1) ws) h in (passes s w (f .0), f .1)
 
 -- behind another word than the end there are more
-pub not-ended : (s : Before) (i : ℕ) → eqb (s .kind) endKind ≡ false → readFrom s i [] ≡ sound → ⊥
+pub not-ended : (s : ScanState) (i : ℕ) → eqb (s .kind) endKind ≡ false → readFrom s i [] ≡ sound → ⊥
 unfolding readFrom
 not-ended s i e h = let g = rw e at h in let z : _≡_ {A = ℕ} 0 1 = cc in omega arith
 
 -- behind the end there are none
-ended : (s : Before) (i : ℕ) (ws : List ℕ) → s .kind ≡ endKind → readFrom s i ws ≡ sound → [] ≡ ws
+ended : (s : ScanState) (i : ℕ) (ws : List ℕ) → s .kind ≡ endKind → readFrom s i ws ≡ sound → [] ≡ ws
 ended s i [] e h = refl
 ended s i (w ∷ ws) e h = absurd (false≢true (rw e at (first-passes s i w ws h .0 .order)))
 
 -- the words of lifts and the end, perhaps behind a held mark of the lift before
-record Told (s : Before) (ws : List ℕ) : Type 0 where
+record Told (s : ScanState) (ws : List ℕ) : Type 0 where
   held : Bool
   mark : held ≡ true → (eqb (s .kind) newKind ≡ true) × (0 < placeOf (s .old) .measure)
   list : List Lift
@@ -102,11 +102,11 @@ record Told (s : Before) (ws : List ℕ) : Type 0 where
   back : marked held (written list (word endKind (s .lifts + length list) ∷ [])) ≡ ws
 
 -- behind another word than a new place there is no mark
-unmarked : {s : Before} {ws : List ℕ} (t : Told s ws) → eqb (s .kind) newKind ≡ false → written (t .list) (word endKind (s .lifts + length (t .list)) ∷ []) ≡ ws
+unmarked : {s : ScanState} {ws : List ℕ} (t : Told s ws) → eqb (s .kind) newKind ≡ false → written (t .list) (word endKind (s .lifts + length (t .list)) ∷ []) ≡ ws
 unmarked t e = rw (not-eq-not {b = false} .0 (λ h. true≢false (sym (t .mark h .0) ∙ e))) at (t .back)
 
 -- by the kind of the first word: a lift, the end or a held mark
-by-kind : (s : Before) (i w : ℕ) (ws : List ℕ) → Free (s .kind) → readFrom s i (w ∷ ws) ≡ sound
+by-kind : (s : ScanState) (i w : ℕ) (ws : List ℕ) → Free (s .kind) → readFrom s i (w ∷ ws) ≡ sound
     → (kind w ≡ liftKind → s .number < payload w → readFrom (state liftKind (payload w) (s .old) (s .lifts + 1)) (i + 1) ws ≡ sound → Told s (w ∷ ws))
     → (readFrom (state heldKind (s .number) (s .old) (s .lifts)) (i + 1) ws ≡ sound → Told (state heldKind (s .number) (s .old) (s .lifts)) ws)
     → Told s (w ∷ ws)
@@ -128,7 +128,7 @@ by-kind s i w ws o h lift held =
     record { held = true; mark = λ _. (k .0, z .1); list = t .list; listed = t .listed; few = t .few; back = ap₂ _∷_ (omega (arith, z .0)) (unmarked t refl) })
 
 -- and the words of one lift more before them
-lift-told : (s : Before) (w v u : ℕ) (ws : List ℕ) → kind w ≡ liftKind → s .number < payload w → kind v ≡ oldKind → Placed oldKind (placeOf v) → kind u ≡ newKind
+lift-told : (s : ScanState) (w v u : ℕ) (ws : List ℕ) → kind w ≡ liftKind → s .number < payload w → kind v ≡ oldKind → Placed oldKind (placeOf v) → kind u ≡ newKind
     → Placed newKind (placeOf u) → (placeOf v .round ≡ 0 → placeOf u .measure ≡ notCounted → ⊥)
     → Told (state newKind (payload w) v (s .lifts + 1)) ws → Told s (w ∷ v ∷ u ∷ ws)
 unfolding written Listed
@@ -144,7 +144,7 @@ lift-told s w v u ws a l b old c new known t =
     }
 
 -- words that pass are such words
-parse : (s : Before) (i : ℕ) (ws : List ℕ) → Free (s .kind) → readFrom s i ws ≡ sound → Told s ws
+parse : (s : ScanState) (i : ℕ) (ws : List ℕ) → Free (s .kind) → readFrom s i ws ≡ sound → Told s ws
 parse s i [] o h = absurd (not-ended s i (ne-eqb (s .kind) endKind (λ e. false≢true (rw e at (o liftKind)))) h)
 parse s i (w ∷ []) o h = by-kind s i w [] o h (λ a l g. absurd (not-ended _ _ refl g)) (parse _ _ [] (λ j. refl))
 parse s i (w ∷ v ∷ []) o h =
@@ -215,7 +215,7 @@ mark-passes n o c i ws true m r = let l = m refl in rw (ne-eqb (placeOf o .measu
 mark-passes n o c i ws false m r = r newKind i (λ j. refl)
 
 -- a lift passes if what follows does
-lift-passes : (s : Before) (i : ℕ) (ws : List ℕ) (l : Lift) → Free (s .kind) → Proper (s .number) l
+lift-passes : (s : ScanState) (i : ℕ) (ws : List ℕ) (l : Lift) → Free (s .kind) → Proper (s .number) l
     → ((k j : ℕ) → Free k → readFrom (state k (l .number) (placeWord oldKind (l .old)) (s .lifts + 1)) j ws ≡ sound) → readFrom s i (wordsOf l ++ ws) ≡ sound
 unfolding readFrom fault
 lift-passes s i ws l o p r =
@@ -228,7 +228,7 @@ lift-passes s i ws l o p r =
     (mark-passes _ _ _ _ ws (l .held) (λ h. rw (measure-place oldKind (l .old) u) (p .held h)) r))))
 
 -- lifts pass, with an end word that counts them
-lifts-pass : (s : Before) (i e : ℕ) (ls : List Lift) → Free (s .kind) → Listed (s .number) ls → e ≡ s .lifts + length ls → e ≤ mostLifts
+lifts-pass : (s : ScanState) (i e : ℕ) (ls : List Lift) → Free (s .kind) → Listed (s .number) ls → e ≡ s .lifts + length ls → e ≤ mostLifts
     → readFrom s i (written ls (word endKind e ∷ [])) ≡ sound
 unfolding readFrom fault written Listed
 lifts-pass s i e [] o p c f = rw (kind-word endKind e (omega arith), payload-word endKind e (omega arith), o endKind, eq-eqb e (s .lifts) (omega arith), le-ltb mostLifts e f)

@@ -7,12 +7,12 @@ use lib.Dec.{eqb}
 use native.Mathlib.Omega.{arith}
 use lib.ListN.{length, getD, drop, length-append, length-drop}
 use lib.Seq.{drop-drop, getD-append-add}
-use Rattle.laws.specs.Sum.{indicator}
-use Rattle.laws.proofs.Sums.{indicator-le}
+use Rattle.probability.specs.Sum.{indicator}
+use Rattle.probability.proofs.Sums.{indicator-le}
 use Rattle.sheet.specs.Sheet.{mostRounds, kind, payload, liftKind, oldKind, newKind, heldKind, endKind, Lift, liftOf, lifts, word, placeWord, wordsOf, written}
 use Rattle.sheet.specs.Reading.{Legible}
-use Rattle.sheet.specs.Tables.{Marked, entryOf}
-use Rattle.sheet.specs.declared.Entry.{Entry}
+use Rattle.sheet.specs.Lift.{Marked, entryOf}
+use Rattle.sheet.specs.declared.lifts.Entry.{Entry}
 use Rattle.sheet.specs.Law.{Placed, Proper, Listed}
 use Rattle.sheet.proofs.Trips.{kind-word, payload-word, kind-place, placed-writable, read-theorem}
 

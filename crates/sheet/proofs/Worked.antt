@@ -1,18 +1,18 @@
--- The small sheets, computed.
+-- The tables, computed.
 use mathlib.Core.Path.{_≡_, refl}
 use mathlib.Core.Bool.{true}
-use Rattle.laws.specs.Same.{allRight}
-use Rattle.laws.specs.Sum.{totalBy}
-use Rattle.sheet.specs.Sheet.{lifts, written}
+use Rattle.probability.specs.Table.{allRight}
+use Rattle.sheet.specs.Sheet.{written}
 use Rattle.sheet.specs.Reading.{fault, readFrom}
-use Rattle.sheet.specs.Rounds.{those, sends}
-use Rattle.sheet.specs.Refusal.{firstRound, ofRounds, verdict}
-use Rattle.sheet.specs.Worked.{cases, right, rightEnds}
+use Rattle.sheet.specs.Worked.{cases, endCases, measureCases}
 
-pub all-right : allRight right cases ≡ true
-unfolding totalBy lifts written fault readFrom those sends firstRound ofRounds verdict
+pub all-right : allRight cases ≡ true
+unfolding written fault readFrom
 all-right = refl
 
-pub right-ends : rightEnds ≡ true
+pub ends-right : allRight endCases ≡ true
 unfolding fault
-right-ends = refl
+ends-right = refl
+
+pub measures-right : allRight measureCases ≡ true
+measures-right = refl

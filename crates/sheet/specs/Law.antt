@@ -1,18 +1,11 @@
--- What is proved of sheets and of lists of lifts: reading and writing are inverse, and a sheet fits when no refusal applies.
+-- What is proved of words and lists of lifts: reading and writing are inverse.
 use Prim.Native.Nat.{ℕ, _^_, _≤_, _<_}
 use mathlib.Core.Path.{_≡_}
-use mathlib.Core.Bool.{Bool, true, false}
+use mathlib.Core.Bool.{true, false}
 use mathlib.Core.List.{List, [], _∷_}
 use lib.ListN.{length}
 use Rattle.sheet.specs.Sheet.{mostLifts, mostRounds, notCounted, oldKind, newKind, Place, Lift, lifts, sheetOf}
-use Rattle.sheet.specs.Reading.{Numbered, tooLarge, reading, sound, Legible}
-use Rattle.sheet.specs.Rounds.{inUse}
-use Rattle.sheet.specs.Refusal.{refused, fits, unheld, oversize, unmeasured, crowded, verdict, told}
-use Rattle.sheet.specs.Tables.{Tabled}
-use Rattle.sheet.specs.declared.Examined.{Examined}
-use Rattle.sheet.specs.declared.Side.the-variants.{Old, New}
-
--- ---- reading and writing
+use Rattle.sheet.specs.Reading.{tooLarge, reading, sound}
 
 -- a place that a word of kind k can tell
 pub record Placed (k : ℕ) (p : Place) : Type 0 where
@@ -72,44 +65,3 @@ AllWritable (l ∷ ls) = Writable l × AllWritable ls
 -- reading the words of such lifts gives the lifts, whether or not the words are refused
 abbrev pub BackTheorem : Type 0
 BackTheorem = (ls : List Lift) → AllWritable ls → length ls < 2 ^ 28 → lifts (sheetOf ls) ≡ ls
-
--- ---- fitting
-
--- no round passes the test
-abbrev pub Nowhere : (ℕ → Bool) → Type 0
-Nowhere p = (r : ℕ) → 1 ≤ r → r ≤ mostRounds → p r ≡ false
-
--- none of the refusals 7 to 10 applies to any round of some lifts
-pub record RoundsFit (ls : List Lift) : Type 0 where
-  pub held : Nowhere (unheld ls)
-  pub old : Nowhere (oversize Old ls)
-  pub new : Nowhere (oversize New ls)
-  pub measured : Nowhere (unmeasured ls)
-  pub donors : Nowhere (crowded ls)
-
--- lifts fit when a sheet can tell them and none of the refusals of rounds applies
-pub record Fit (ls : List Lift) : Type 0 where
-  pub listable : Listable ls
-  pub rounds : RoundsFit ls
-
--- a sheet fits when none of the refusals applies
-pub record Fitting (ws : List ℕ) : Type 0 where
-  pub legible : Legible ws
-  pub rounds : RoundsFit (lifts ws)
-
--- exactly the sheets that fit are not refused
-pub record Decided (ws : List ℕ) : Type 0 where
-  pub passes : Fitting ws → verdict ws ≡ fits (length (lifts ws)) (length (inUse New (lifts ws)))
-  pub only : (n k : ℕ) → verdict ws ≡ fits n k → Fitting ws × (n ≡ length (lifts ws)) × (k ≡ length (inUse New (lifts ws)))
-  -- 0 is no refusal's number
-  pub above : (x : Numbered) → verdict ws ≡ refused x → 0 < x .number
-
-abbrev pub DecidedTheorem : Type 0
-DecidedTheorem = (ws : List ℕ) → Decided ws
-
--- ---- the answer with the tables
-
--- what is answered to a sheet: the verdict and, of a sheet that fits, its tables
-pub record Answered (ws : List ℕ) (e : Examined) : Type 0 where
-  pub verdict : told (e .checked) ≡ verdict ws
-  pub tables : Fitting ws → Tabled (lifts ws) (e .tallies)

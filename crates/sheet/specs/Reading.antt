@@ -7,7 +7,11 @@ use mathlib.Core.List.{List, [], _∷_}
 use lib.ListN.{length}
 use lib.Dec.{eqb, leb, ltb}
 use Rattle.sheet.specs.Sheet.{mostLifts, mostRounds, largestSum, longest, notCounted, kind, payload, liftKind, oldKind, newKind, heldKind, endKind, placeOf}
-use Rattle.sheet.specs.declared.Before.{Before}
+use Rattle.reply.specs.Reply.{Numbered, numbered}
+use Rattle.reply.specs.Refusal.{refusalOf}
+use Rattle.sheet.specs.declared.faults.ScanState.{ScanState}
+use Rattle.sheet.specs.declared.Judged.{Judged}
+use Rattle.sheet.specs.declared.Judged.the-variants.{Faulty, Sound}
 
 -- "1. Length 0 or above 12,389 words."
 abbrev pub mislong : List ℕ → Bool
@@ -16,11 +20,11 @@ mislong ws = eqb (length ws) 0 || ltb longest (length ws)
 -- ---- what the words before a word tell
 
 -- what the words before the first one tell: no kind, no lift
-abbrev pub start : Before
+abbrev pub start : ScanState
 start = record { kind = 0; number = 0; old = 0; lifts = 0 }
 
 -- what a word adds: its kind, a lift's number, the word of a lift's old place, one lift more
-abbrev pub next : Before → ℕ → Before
+abbrev pub next : ScanState → ℕ → ScanState
 next s w =
     record {
       kind = kind w;
@@ -40,11 +44,11 @@ follows before k =
 -- ---- the refusals of a word
 
 -- "2. A kind out of sequence, a word after the end"
-abbrev pub outOfSequence : Before → ℕ → Bool
+abbrev pub outOfSequence : ScanState → ℕ → Bool
 outOfSequence s w = not (follows (s .kind) (kind w))
 
 -- "3. Lift number 0 or not above the one before."
-abbrev pub misnumbered : Before → ℕ → Bool
+abbrev pub misnumbered : ScanState → ℕ → Bool
 misnumbered s w = eqb (kind w) liftKind && (eqb (payload w) 0 || leb (payload w) (s .number))
 
 -- the kinds of places
@@ -65,19 +69,19 @@ abbrev pub misplaced : ℕ → Bool
 misplaced w = isPlace (kind w) && beyond (kind w) (placeOf w .round) (placeOf w .measure)
 
 -- "16 when a newcomer is not counted"; "Round 0 in an old place is a newcomer"
-abbrev pub uncountedNewcomer : Before → ℕ → Bool
+abbrev pub uncountedNewcomer : ScanState → ℕ → Bool
 uncountedNewcomer s w = eqb (kind w) newKind && (eqb (placeOf (s .old) .round) 0 && eqb (placeOf w .measure) notCounted)
 
 -- "5. End count not the number of lifts, or above 4,096."
-abbrev pub miscounted : Before → ℕ → Bool
+abbrev pub miscounted : ScanState → ℕ → Bool
 miscounted s w = eqb (kind w) endKind && (not (eqb (payload w) (s .lifts)) || ltb mostLifts (payload w))
 
 -- "6. A held word with payload other than 0, or whose lift has old measure 0."
-abbrev pub mismarked : Before → ℕ → Bool
+abbrev pub mismarked : ScanState → ℕ → Bool
 mismarked s w = eqb (kind w) heldKind && (not (eqb (payload w) 0) || eqb (placeOf (s .old) .measure) 0)
 
 -- the number of the first refusal that applies to a word, 0 if none does; 16 "wherever 4 is checked, after it"
-unfoldable pub fault : Before → ℕ → ℕ
+unfoldable pub fault : ScanState → ℕ → ℕ
 fault s w =
     cond (outOfSequence s w) 2
     (cond (misnumbered s w) 3
@@ -88,14 +92,6 @@ fault s w =
     0)))))
 
 -- ---- the first faulty word
-
--- a refusal by the document's number and its place
-pub record Numbered : Type 0 where
-  pub number : ℕ
-  pub place : ℕ
-
-abbrev pub numbered : ℕ → ℕ → Numbered
-numbered n i = record { number = n; place = i }
 
 -- the refusal of what is first found faulty, or that nothing is
 pub data Reading : Type 0 where
@@ -108,7 +104,7 @@ unless zero i rest = rest
 unless (suc n) i rest = faulty (numbered (suc n) i)
 
 -- the reading of the words from position i on; "or no end (place: the length)"
-unfoldable pub readFrom : Before → ℕ → List ℕ → Reading
+unfoldable pub readFrom : ScanState → ℕ → List ℕ → Reading
 readFrom s i [] = cond (eqb (s .kind) endKind) sound (faulty (numbered 2 i))
 readFrom s i (w ∷ ws) = unless (fault s w) i (readFrom (next s w) (i + 1) ws)
 
@@ -123,3 +119,10 @@ ofWords ws = cond (mislong ws) (faulty (numbered 1 (length ws))) (reading ws)
 pub record Legible (ws : List ℕ) : Type 0 where
   pub short : length ws ≤ longest
   pub read : reading ws ≡ sound
+
+-- ---- the code's answer
+
+-- the reading that an answer to words alone stands for
+abbrev pub readingOf : Judged → Reading
+readingOf (Faulty x) = faulty (refusalOf x)
+readingOf Sound = sound

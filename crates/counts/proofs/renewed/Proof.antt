@@ -3,7 +3,7 @@ use mathlib.Core.Path.{_≡_, sym, ap, subst, _∙_}
 use lib.ListN.{length}
 use Rattle.sheet.specs.Sheet.{lifts, sheetOf}
 use Rattle.sheet.specs.Reading.{Legible}
-use Rattle.sheet.specs.Refusal.{verdict}
+use Rattle.tally.specs.Verdict.{verdict}
 use Rattle.counts.specs.Scan.{liftsWith}
 use borrow.Author.Needs.{needs}
 use Rattle.counts.proofs.renewed.Statement.{statement}

@@ -1,30 +1,20 @@
--- `exports::jengpilo_counts_take` meets its contract: the three numbers are what the answer replies. Assumes nothing.
+-- `exports::jengpilo_counts_take` meets its contract: what `take` ensures, with the reply written. Assumes nothing.
 use borrow.Author.Needs.{needs}
-use Rattle.exports.proofs.Replies.{by-numbers}
+use mathlib.Core.Path.{_∙_}
 use Rattle.exports.proofs.jengpilo_counts_take.Statement.{statement}
 use Rattle.exports.proofs.jengpilo_counts_take.Tie as tie
 
 take-requires : tie.Need-take-requires
 take-requires c κs = search needs
 
-second-requires : tie.Need-second-requires
-second-requires c κs = search needs
-
-third-requires : tie.Need-third-requires
-third-requires c κs = search needs
-
-number-requires : tie.Need-number-requires
-number-requires c κs = search needs
+write-reply-requires : tie.Need-write-reply-requires
+write-reply-requires c κs = search needs
 
 same-length : tie.Need-same-length
 same-length c = search needs
 
 returns : tie.Need-returns
-returns c =
-    let e = c .before .before .before .before .before .take .ensures in
-    (by-numbers (c .number .ensures) (c .before .before .second .ensures) (c .before .third .ensures) (e .0), e .1 .0)
+returns c = let e = c .before .before .before .before .before .take .ensures in (c .write-reply .ensures ∙ e .0, e .1 .0)
 
 pub jengpilo-counts-take-spec : {M : Type 1} → statement M
-jengpilo-counts-take-spec =
-    tie.close
-    (tie.spec take-requires second-requires third-requires number-requires same-length returns)
+jengpilo-counts-take-spec = tie.close (tie.spec take-requires write-reply-requires same-length returns)

@@ -1,30 +1,20 @@
--- `exports::jengpilo_panel_choose` meets its contract: the three numbers are what the answer replies. Assumes nothing.
+-- `exports::jengpilo_panel_choose` meets its contract: what `choose` ensures, with the reply written. Assumes nothing.
 use borrow.Author.Needs.{needs}
-use Rattle.exports.proofs.Replies.{by-numbers}
+use mathlib.Core.Path.{_∙_}
 use Rattle.exports.proofs.jengpilo_panel_choose.Statement.{statement}
 use Rattle.exports.proofs.jengpilo_panel_choose.Tie as tie
 
 choose-requires : tie.Need-choose-requires
 choose-requires c κs = search needs
 
-second-requires : tie.Need-second-requires
-second-requires c κs = search needs
-
-third-requires : tie.Need-third-requires
-third-requires c κs = search needs
-
-number-requires : tie.Need-number-requires
-number-requires c κs = search needs
+write-reply-requires : tie.Need-write-reply-requires
+write-reply-requires c κs = search needs
 
 same-length : tie.Need-same-length
 same-length c = search needs
 
 returns : tie.Need-returns
-returns c =
-    let e = c .before .before .before .before .before .choose .ensures in
-    (by-numbers (c .number .ensures) (c .before .before .second .ensures) (c .before .third .ensures) (e .0), e .1 .0)
+returns c = let e = c .before .before .before .before .before .choose .ensures in (c .write-reply .ensures ∙ e .0, e .1 .0)
 
 pub jengpilo-panel-choose-spec : {M : Type 1} → statement M
-jengpilo-panel-choose-spec =
-    tie.close
-    (tie.spec choose-requires second-requires third-requires number-requires same-length returns)
+jengpilo-panel-choose-spec = tie.close (tie.spec choose-requires write-reply-requires same-length returns)

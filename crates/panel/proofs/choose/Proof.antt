@@ -1,8 +1,8 @@
 -- `panel::choose` meets its contract: what the check ensures, by the two cases of its answer; demand 3 is `fair`. Assumes nothing.
 use mathlib.Core.Path.{sym, ap, _∙_}
 use Rattle.sheet.specs.Sheet.{lifts}
-use Rattle.sheet.specs.Refusal.{told as checked}
-use Rattle.sheet.proofs.Verdicts.{decided, fit}
+use Rattle.tally.specs.Verdict.{verdictOf as checked}
+use Rattle.tally.proofs.Verdicts.{decided, fit}
 use Rattle.selection.proofs.Fair.{fair}
 use Rattle.panel.proofs.Answers.{at-sheet, at-fitting}
 use borrow.Author.Needs.{needs}

@@ -3,10 +3,10 @@ use mathlib.Core.Path.{_≡_, sym, _∙_}
 use Prim.Native.Nat.{_*_, _≤_}
 use lib.ListN.{length}
 use Rattle.sheet.specs.Sheet.{lifts}
-use Rattle.sheet.specs.Rounds.{inUse}
-use Rattle.sheet.specs.declared.Side.the-variants.{New}
-use Rattle.sheet.proofs.Verdicts.{fit, in-use}
-use Rattle.panel.specs.Choosing.{told}
+use Rattle.tally.specs.Rounds.{inUse}
+use Rattle.sheet.specs.Lift.{New}
+use Rattle.tally.proofs.Verdicts.{fit, in-use}
+use Rattle.reply.specs.Refusal.{replyOf}
 use Rattle.selection.proofs.Choices.{few-rounds}
 use Rattle.panel.proofs.Answers.{onward, writable, left, lacks, suffices, through}
 use borrow.Author.Needs.{needs}
@@ -38,7 +38,7 @@ number-requires c κs = search needs
 returns : tie.Need-returns
 returns c =
     let a = c .before .before .before .before .before .before .before .before .before .args in
-    let some : told (c .before .before .lacking .result) .number ≡ 0 → ⊥ = λ z. c .if1 .taken (c .before .number .ensures ∙ z) in
+    let some : replyOf (c .before .before .lacking .result) .number ≡ 0 → ⊥ = λ z. c .if1 .taken (c .before .number .ensures ∙ z) in
     left (a .out .now) _ some (lacks _ (length (a .words .now)) (a .start) (length (a .out .now)) _ _ (rw (rounds (c .before .before .before)) at (c .before .before .lacking .ensures)) some)
 
 select-all-requires : tie.Need-select-all-requires

@@ -2,8 +2,8 @@
 -- `carries`, demand 3 is `fair`. Assumes nothing.
 use mathlib.Core.Path.{sym, ap, _∙_}
 use Rattle.sheet.specs.Sheet.{lifts}
-use Rattle.sheet.specs.Refusal.{told as checked}
-use Rattle.sheet.proofs.Verdicts.{decided, fit}
+use Rattle.tally.specs.Verdict.{verdictOf as checked}
+use Rattle.tally.proofs.Verdicts.{decided, fit}
 use Rattle.selection.proofs.Fair.{fair}
 use Rattle.carry.proofs.Carrying.{carries}
 use Rattle.panel.proofs.Nexts.{at-sheet, at-fitting}

@@ -1,6 +1,6 @@
 -- `report::put_text` meets its contract: the files are decoded, and what `choose` ensures tells the text. Assumes nothing.
 use mathlib.Core.Path.{refl, sym, _∙_}
-use Rattle.panel.specs.Choosing.{told}
+use Rattle.reply.specs.Refusal.{replyOf}
 use Rattle.report.specs.Report.{sheetWords, randomWords}
 use Rattle.report.proofs.Words.{random-le, lent}
 use Rattle.report.proofs.Reports.{Told, text-told}
@@ -9,12 +9,12 @@ use Rattle.report.proofs.put_text.Statement.{statement}
 use Rattle.report.proofs.put_text.Tie as tie
 
 -- the answer and the output words tell the text
-told-of : (c : tie.After-choose) → Told (sheetWords (c .before .before .before .before .before .before .before .before .before .before .before .before .before .args .sheet .now)) (randomWords (c .before .before .before .before .before .before .before .before .before .before .before .before .before .args .words .now)) (told (c .choose .result)) (c .choose .last .1 .1 .1 .0)
+told-of : (c : tie.After-choose) → Told (sheetWords (c .before .before .before .before .before .before .before .before .before .before .before .before .before .args .sheet .now)) (randomWords (c .before .before .before .before .before .before .before .before .before .before .before .before .before .args .words .now)) (replyOf (c .choose .result)) (c .choose .last .1 .1 .1 .0)
 told-of c =
     let e = c .choose .ensures in
     let s = c .before .before .before .before .before .before .before .before .sheet-words .ensures in
     let w = c .before .before .before .before .before .random-words .ensures in
-    text-told _ _ (told (c .choose .result)) _ (rw (s .is, w .is) at (e .0)) (random-le (c .before .before .before .before .before .before .before .before .before .before .before .before .before .args .words .now)) refl (search needs) (rw (s .is, w .is) at (e .1 .0))
+    text-told _ _ (replyOf (c .choose .result)) _ (rw (s .is, w .is) at (e .0)) (random-le (c .before .before .before .before .before .before .before .before .before .before .before .before .before .args .words .now)) refl (search needs) (rw (s .is, w .is) at (e .1 .0))
 
 slice-aggregate-sheet-words : tie.Need-slice-aggregate-sheet-words
 slice-aggregate-sheet-words c = search needs

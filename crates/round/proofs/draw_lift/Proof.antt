@@ -4,8 +4,8 @@ use Rattle.round.proofs.Answers.{drawn, drawn-short}
 use Rattle.round.proofs.draw_lift.Statement.{statement}
 use Rattle.round.proofs.draw_lift.Tie as tie
 
-reach-requires : tie.Need-reach-requires
-reach-requires c κs = search needs
+growth-sum-requires : tie.Need-growth-sum-requires
+growth-sum-requires c κs = search needs
 
 draw-from-requires : tie.Need-draw-from-requires
 draw-from-requires c κs = search needs
@@ -32,7 +32,7 @@ pub draw-lift-spec : {M : Type 1} → statement M
 draw-lift-spec =
     tie.close
     (tie.spec
-    reach-requires
+    growth-sum-requires
     draw-from-requires
     enum-known-q
     pick-lift-requires

@@ -1,0 +1,68 @@
+-- Plans: trees of draws, their paths, and the mass of the paths whose result passes a test.
+use Prim.Native.Nat.{ℕ, zero, suc, _*_, _<_}
+use mathlib.Core.Bool.{Bool, true}
+use mathlib.Core.List.{List, [], _∷_, _++_, map}
+use Rattle.probability.specs.Sum.{over, indicator}
+use Rattle.probability.specs.Fraction.{Fraction, _//_, _⊗_, _≈_, _≲_, sum, sumOver}
+
+-- a result, or a draw of one of the numbers below a bound, each as likely as another, and a plan for each of them
+pub data Plan (A : Type 0) : Type 0 where
+  done : A → Plan A
+  draw : (bound : ℕ) → (ℕ → Plan A) → Plan A
+
+-- one plan after another: the second depends on the first one's result
+unfoldable pub after : {A B : Type 0} → Plan A → (A → Plan B) → Plan B
+after (done a) k = k a
+after (draw b f) k = draw b (λ v. after (f v) k)
+
+-- every draw has a value, and every result is such
+unfoldable pub Every : {A : Type 0} → (A → Type 0) → Plan A → Type 0
+Every P (done a) = P a
+Every P (draw b k) = (0 < b) × ((v : ℕ) → v < b → Every P (k v))
+
+-- every draw has a value
+abbrev pub Drawable : {A : Type 0} → Plan A → Type 0
+Drawable p = Every (λ _. Unit {0}) p
+
+-- no path makes more than n draws
+unfoldable pub Within : {A : Type 0} → ℕ → Plan A → Type 0
+Within n (done a) = Unit {0}
+Within zero (draw b k) = ⊥
+Within (suc n) (draw b k) = (v : ℕ) → v < b → Within n (k v)
+
+-- a path through a plan (the document's "way"): the values drawn, the product of the bounds met, the result
+pub record Path (A : Type 0) : Type 0 where
+  pub values : List ℕ
+  pub bounds : ℕ
+  pub result : A
+
+-- a path that first draws v below b
+abbrev pub drew : {A : Type 0} → ℕ → ℕ → Path A → Path A
+drew b v p = record { values = v ∷ p .values; bounds = b * p .bounds; result = p .result }
+
+-- all paths through a plan
+unfoldable pub paths : {A : Type 0} → Plan A → List (Path A)
+paths (done a) = record { values = []; bounds = 1; result = a } ∷ []
+paths (draw b k) = over _++_ [] b (λ v. map (drew b v) (paths (k v)))
+
+-- what the paths weigh together whose result passes the test: each weighs 1 over the product of the bounds that it met
+unfoldable pub weight : {A : Type 0} → (A → Bool) → List (Path A) → Fraction
+weight t ps = sumOver ps (λ p. indicator (t (p .result)) // p .bounds)
+
+-- the mean of f over the results of a plan, by recursion: the values of a draw share its mass evenly
+unfoldable pub mean : {A : Type 0} → (A → Fraction) → Plan A → Fraction
+mean f (done a) = f a
+mean f (draw b k) = 1 // b ⊗ sum b (λ v. mean f (k v))
+
+-- the mass of the results that pass the test: the mean of 1 where a result does and 0 where it does not
+unfoldable pub mass : {A : Type 0} → (A → Bool) → Plan A → Fraction
+mass t p = mean (λ a. indicator (t a) // 1) p
+
+-- what is proved of every plan whose draws all have a value, and of every test (proofs/Masses.antt)
+pub record Weighed {A : Type 0} (t : A → Bool) (p : Plan A) : Type 0 where
+  -- the list of paths and the recursion agree
+  pub agree : weight t (paths p) ≈ mass t p
+  -- all paths weigh 1 together
+  pub whole : weight (λ _. true) (paths p) ≈ 1 // 1
+  -- and no part of them weighs more
+  pub part : weight t (paths p) ≲ 1 // 1

@@ -1,0 +1,10 @@
+pub mod Tables
+pub mod Bits
+pub mod Those
+pub mod Searches
+pub mod Filling
+pub mod Sending
+pub mod Surveys
+pub mod Numbers
+pub mod Verdicts
+pub mod Worked

@@ -1,0 +1,174 @@
+-- The answer to a sheet: the tests of the code on tables are the document's on lifts, and one law for each way out.
+use Prim.Native.Nat.{ℕ, _+_, _*_, _≤_}
+use mathlib.Core.Path.{_≡_, refl, sym, ap, ap₂, subst, _∙_}
+use mathlib.Core.Bool.{Bool, false}
+use mathlib.Core.List.{List, [], _∷_}
+use native.Mathlib.Omega.{arith}
+use lib.Dec.{ltb}
+use lib.Count.{ones}
+use lib.ListN.{length, getD}
+use Rattle.sheet.specs.Sheet.{mostRounds, longest, Lift, lifts, sheetOf}
+use Rattle.reply.specs.Reply.{Numbered, numbered}
+use Rattle.sheet.specs.Reading.{Reading, faulty, sound, ofWords, Legible}
+use Rattle.tally.specs.Rounds.{rounds, named, inUse, donors}
+use Rattle.tally.specs.Verdict.{Verdict, refused, fits, breaks, unheld, oversize, unmeasured, crowded, firstRound, ofRounds, unlessFaulty, verdict, verdictOf}
+use Rattle.reply.specs.Refusal.{refusalOf}
+use Rattle.tally.specs.Tables.{table, donorsOf, donorCounts, first}
+use Rattle.tally.specs.Law.{Fit, Fitting, DecidedTheorem, Answered}
+use Rattle.sheet.specs.Lift.{Old, New}
+use Rattle.tally.specs.declared.Rule.{Rule}
+use Rattle.reply.specs.declared.Refusal.{Refusal}
+use Rattle.tally.specs.declared.Checked.the-variants.{Refused}
+use Rattle.tally.specs.declared.Examined.{Examined}
+use Rattle.tally.specs.declared.Found.{Found}
+use Rattle.tally.specs.declared.Found.the-variants.{At, Nothing}
+use Rattle.tally.proofs.Tables.{getD-tabulate, length-tabulate, tabulated}
+use Rattle.tally.proofs.Sending.{low-word, high-word, donors-count}
+use Rattle.tally.proofs.Numbers.{Above, above}
+use Rattle.sheet.proofs.Trips.{read-theorem, written-theorem}
+use Rattle.sheet.proofs.Legibility.{legible-words, words-legible}
+use Rattle.tally.proofs.Those.{those-ext, those-none, none-those}
+
+-- ---- the tests on tables
+
+-- the rounds that pass a test on two tables' numbers
+tested : (test : ℕ → ℕ → Bool) (f g : ℕ → ℕ) {a b : List ℕ} → a ≡ table f → b ≡ table g
+    → rounds (λ t. test (getD a t 0) (getD b t 0)) ≡ rounds (λ t. test (f t) (g t))
+tested test f g ea eb =
+    those-ext 1 mostRounds
+    (λ t l h. ap₂ test (ap (λ x. getD x t 0) ea ∙ getD-tabulate (mostRounds + 1) f t h) (ap (λ x. getD x t 0) eb ∙ getD-tabulate (mostRounds + 1) g t h))
+
+-- what the code's search finds is the first round that breaks a rule
+pub found : (rule : Rule) (f g : ℕ → ℕ) {a b : List ℕ} {x : Found} → a ≡ table f → b ≡ table g → x ≡ first (rounds (λ t. breaks rule (getD a t 0) (getD b t 0)))
+    → x ≡ first (rounds (λ t. breaks rule (f t) (g t)))
+found rule f g ea eb e = e ∙ ap first (tested (breaks rule) f g ea eb)
+
+pub in-use : (ls : List Lift) {a : List ℕ} {n : ℕ} → a ≡ table (λ r. named New r ls) → n ≡ length (rounds (λ t. ltb 0 (getD a t 0))) → n ≡ length (inUse New ls)
+in-use ls ea e = e ∙ ap length (tested (λ x y. ltb 0 x) _ _ ea ea)
+
+-- how many donors each round has
+pub counted : {ws words counts : List ℕ} → Legible ws → words ≡ donorsOf (lifts ws) → counts ≡ donorCounts words → counts ≡ table (λ r. length (donors r (lifts ws)))
+counted {ws} {words} l ew ec =
+    tabulated _ (ap length ec ∙ length-tabulate (mostRounds + 1) _) (λ r h. ap (λ t. getD t r 0) ec ∙ getD-tabulate (mostRounds + 1) _ r h ∙ count r (omega arith))
+  where
+    count : (r : ℕ) → r ≤ mostRounds → ones (getD words (2 * r) 0) + ones (getD words (2 * r + 1) 0) ≡ length (donors r (lifts ws))
+    count r h = rw (ew, low-word (lifts ws) r h, high-word (lifts ws) r h) (donors-count ws l r)
+
+-- ---- the ways out
+
+-- a refusal that meets a round, and one that meets none
+met : (n : ℕ) {r : ℕ} (rs : List ℕ) (v : Verdict) → At r ≡ first rs → refused (numbered n r) ≡ firstRound n rs v
+unfolding firstRound
+met n [] v e = cc
+met n (x ∷ rs) v e = cc
+
+unmet : (n : ℕ) (rs : List ℕ) (v : Verdict) → Nothing ≡ first rs → v ≡ firstRound n rs v
+unfolding firstRound
+unmet n [] v e = refl
+unmet n (r ∷ rs) v e = cc
+
+module _ (ls : List Lift) where
+  pub at-unheld : {r : ℕ} → At r ≡ first (rounds (unheld ls)) → refused (numbered 7 r) ≡ ofRounds ls
+  unfolding ofRounds
+  at-unheld e = met 7 _ _ e
+
+  module _ (a : Nothing ≡ first (rounds (unheld ls))) where
+    pub at-old : {r : ℕ} → At r ≡ first (rounds (oversize Old ls)) → refused (numbered 8 r) ≡ ofRounds ls
+    unfolding ofRounds
+    at-old e = met 8 _ _ e ∙ unmet 7 _ _ a
+
+    module _ (b : Nothing ≡ first (rounds (oversize Old ls))) where
+      pub at-new : {r : ℕ} → At r ≡ first (rounds (oversize New ls)) → refused (numbered 8 r) ≡ ofRounds ls
+      unfolding ofRounds
+      at-new e = met 8 _ _ e ∙ unmet 8 _ _ b ∙ unmet 7 _ _ a
+
+      module _ (c : Nothing ≡ first (rounds (oversize New ls))) where
+        pub at-unmeasured : {r : ℕ} → At r ≡ first (rounds (unmeasured ls)) → refused (numbered 9 r) ≡ ofRounds ls
+        unfolding ofRounds
+        at-unmeasured e = met 9 _ _ e ∙ unmet 8 _ _ c ∙ unmet 8 _ _ b ∙ unmet 7 _ _ a
+
+        module _ (d : Nothing ≡ first (rounds (unmeasured ls))) where
+          pub at-crowded : {r : ℕ} → At r ≡ first (rounds (crowded ls)) → refused (numbered 10 r) ≡ ofRounds ls
+          unfolding ofRounds
+          at-crowded e = met 10 _ _ e ∙ unmet 9 _ _ d ∙ unmet 8 _ _ c ∙ unmet 8 _ _ b ∙ unmet 7 _ _ a
+
+          pub at-last : Nothing ≡ first (rounds (crowded ls)) → fits (length ls) (length (inUse New ls)) ≡ ofRounds ls
+          unfolding ofRounds
+          at-last e = unmet 10 _ _ e ∙ unmet 9 _ _ d ∙ unmet 8 _ _ c ∙ unmet 8 _ _ b ∙ unmet 7 _ _ a
+
+module _ (ws : List ℕ) where
+  pub at-word : {x : Numbered} → faulty x ≡ ofWords ws → refused x ≡ verdict ws
+  unfolding verdict
+  at-word e = ap (λ r. unlessFaulty r (ofRounds (lifts ws))) e
+
+  pub at-rounds : {v : Verdict} → sound ≡ ofWords ws → v ≡ ofRounds (lifts ws) → v ≡ verdict ws
+  unfolding verdict
+  at-rounds e q = q ∙ ap (λ r. unlessFaulty r (ofRounds (lifts ws))) e
+
+-- ---- fitting
+
+-- a refusal that is not given meets no round
+passed : (n : ℕ) (rs : List ℕ) (v : Verdict) {a b : ℕ} → firstRound n rs v ≡ fits a b → (rs ≡ []) × (v ≡ fits a b)
+unfolding firstRound
+passed n [] v e = (refl, e)
+passed n (r ∷ rs) v e = (cc, cc)
+
+pub read-through : (r : Reading) (v : Verdict) {a b : ℕ} → unlessFaulty r v ≡ fits a b → (r ≡ sound) × (v ≡ fits a b)
+read-through sound v e = (refl, e)
+read-through (faulty x) v e = (cc, cc)
+
+pub decided : DecidedTheorem
+unfolding verdict ofRounds firstRound
+decided ws =
+    record {
+      passes = λ f.
+          let g = f .rounds in
+          sym
+          (at-rounds ws (words-legible (f .legible))
+          (rw (clear (unheld ls) (g .held), clear (oversize Old ls) (g .old), clear (oversize New ls) (g .new), clear (unmeasured ls) (g .measured), clear (crowded ls) (g .donors))));
+      only = λ n k e.
+          let w = read-through (ofWords ws) (ofRounds ls) e in
+          let a = passed 7 (rounds (unheld ls)) _ (w .1) in
+          let b = passed 8 (rounds (oversize Old ls)) _ (a .1) in
+          let c = passed 8 (rounds (oversize New ls)) _ (b .1) in
+          let d = passed 9 (rounds (unmeasured ls)) _ (c .1) in
+          let g = passed 10 (rounds (crowded ls)) _ (d .1) in
+          let fitting : Fitting ws = record {
+            legible = legible-words (w .0);
+            rounds = record {
+              held = none (unheld ls) (a .0);
+              old = none (oversize Old ls) (b .0);
+              new = none (oversize New ls) (c .0);
+              measured = none (unmeasured ls) (d .0);
+              donors = none (crowded ls) (g .0);
+            };
+          } in
+          (fitting, cc (g .1), cc (g .1));
+      above = λ x e. subst Above e (above ws);
+    }
+  where
+    ls : List Lift
+    ls = lifts ws
+
+    clear : (p : ℕ → Bool) → ((r : ℕ) → 1 ≤ r → r ≤ mostRounds → p r ≡ false) → rounds p ≡ []
+    clear p h = those-none p 1 mostRounds (λ t l m. h t l (omega arith))
+
+    none : (p : ℕ → Bool) → rounds p ≡ [] → (r : ℕ) → 1 ≤ r → r ≤ mostRounds → p r ≡ false
+    none p e r l m = none-those p 1 mostRounds e r l (omega arith)
+
+-- the lifts of a fitting sheet fit
+pub fit : {ws : List ℕ} → Fitting ws → Fit (lifts ws)
+fit {ws} f = record { listable = read-theorem ws (f .legible .read) .listable; rounds = f .rounds }
+
+-- and lifts that fit have a fitting sheet, if it is not too long
+pub fits-sheet : {ls : List Lift} → Fit ls → length (sheetOf ls) ≤ longest → Fitting (sheetOf ls)
+fits-sheet {ls} f h =
+    let w = written-theorem ls (f .listable) in
+    record { legible = record { short = h; read = w .sound }; rounds = rw (w .back) (f .rounds) }
+
+-- ---- the answer with the tables
+
+-- a sheet that is refused does not fit, so nothing is asked of its tables
+pub answered-refused : {ws : List ℕ} {x : Refusal} {e : Examined} → e .checked ≡ Refused x → refused (refusalOf x) ≡ verdict ws → Answered ws e
+answered-refused {ws} {x} q h =
+    record { verdict = ap verdictOf q ∙ h; tables = λ f. let p = decided ws .passes f in let z : _≡_ {A = ℕ} 0 1 = cc in absurd (omega arith) }

@@ -1,0 +1,5 @@
+pub mod Rounds
+pub mod Verdict
+pub mod Tables
+pub mod Law
+pub mod Worked

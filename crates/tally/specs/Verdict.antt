@@ -1,0 +1,84 @@
+-- "Refused because of the sheet" of document 01.
+use Prim.Native.Nat.{ℕ}
+use mathlib.Core.Bool.{Bool, not, _&&_}
+use mathlib.Core.List.{List, [], _∷_}
+use lib.ListN.{length}
+use lib.Dec.{eqb, leb, ltb}
+use Rattle.sheet.specs.Sheet.{largestSum, Lift, lifts}
+use Rattle.reply.specs.Reply.{Numbered, numbered, Reply, ofRefusal}
+use Rattle.reply.specs.Refusal.{refusalOf}
+use Rattle.sheet.specs.Reading.{Reading, faulty, sound, ofWords}
+use Rattle.tally.specs.Rounds.{rounds, named, inUse, sumOf, heldIn, donors}
+use Rattle.sheet.specs.Lift.{Side, Old, New}
+use Rattle.tally.specs.declared.Rule.{Rule}
+use Rattle.tally.specs.declared.Rule.the-variants.{OneHeld, SmallSum, SomeMeasure, FewDonors}
+use Rattle.tally.specs.declared.Checked.{Checked}
+use Rattle.tally.specs.declared.Checked.the-variants.{Refused, Fits}
+
+-- what is said of a sheet: a refusal's number and place, or that it fits, with how many lifts and new rounds it has
+pub data Verdict : Type 0 where
+  refused : Numbered → Verdict
+  fits : (lifts rounds : ℕ) → Verdict
+
+-- ---- the refusals of rounds; those of words are in Reading.antt
+
+-- whether a round breaks a rule, from how many lifts name it and one number more: its held lifts, its sum or its donors
+abbrev pub breaks : Rule → ℕ → ℕ → Bool
+breaks OneHeld lifts held = ltb 0 lifts && not (eqb held 1)
+breaks SmallSum lifts sum = ltb largestSum sum
+breaks SomeMeasure lifts sum = ltb 0 lifts && eqb sum 0
+breaks FewDonors lifts donors = ltb 0 lifts && leb 3 donors
+
+-- "7. An old round from 1 up, named by any lift, without exactly one held lift."
+abbrev pub unheld : List Lift → ℕ → Bool
+unheld ls r = breaks OneHeld (named Old r ls) (heldIn r ls)
+
+-- "8. A sum above 1,048,576"
+abbrev pub oversize : Side → List Lift → ℕ → Bool
+oversize side ls r = breaks SmallSum (named side r ls) (sumOf side r ls)
+
+-- "9. A new round whose sum is 0."
+abbrev pub unmeasured : List Lift → ℕ → Bool
+unmeasured ls r = breaks SomeMeasure (named New r ls) (sumOf New r ls)
+
+-- "10. A new round with three donors or more; the different old rounds that send it measure are counted."
+abbrev pub crowded : List Lift → ℕ → Bool
+crowded ls r = breaks FewDonors (named New r ls) (length (donors r ls))
+
+-- ---- their order
+
+-- a refusal of the first of the rounds that it meets, if it meets any, else what follows
+unfoldable pub firstRound : ℕ → List ℕ → Verdict → Verdict
+firstRound n [] v = v
+firstRound n (r ∷ rs) v = refused (numbered n r)
+
+-- "then 7, 8, 9, 10, each over all rounds rising before the next"; of 8, "old rounds tried first"
+unfoldable pub ofRounds : List Lift → Verdict
+ofRounds ls =
+    firstRound 7 (rounds (unheld ls))
+    (firstRound 8 (rounds (oversize Old ls))
+    (firstRound 8 (rounds (oversize New ls))
+    (firstRound 9 (rounds (unmeasured ls))
+    (firstRound 10 (rounds (crowded ls))
+    (fits (length ls) (length (inUse New ls)))))))
+
+-- the refusal that a reading met, else what follows
+abbrev pub unlessFaulty : Reading → Verdict → Verdict
+unlessFaulty (faulty x) v = refused x
+unlessFaulty sound v = v
+
+-- the words, "then" the rounds
+unfoldable pub verdict : List ℕ → Verdict
+verdict ws = unlessFaulty (ofWords ws) (ofRounds (lifts ws))
+
+-- the reply of a refused sheet, or what follows from the new rounds of a fitting one
+abbrev pub ofVerdict : Verdict → (ℕ → Reply) → Reply
+ofVerdict (refused x) reply = ofRefusal x
+ofVerdict (fits n rounds) reply = reply rounds
+
+-- ---- the code's answer
+
+-- what the answer to a sheet says
+abbrev pub verdictOf : Checked → Verdict
+verdictOf (Refused x) = refused (refusalOf x)
+verdictOf (Fits s) = fits (s .lifts) (s .rounds)
