@@ -24,7 +24,7 @@ use Rattle.sheet.specs.Lift.{Old, New, placeAt}
 use Rattle.sheet.proofs.Trips.{written-theorem}
 use Rattle.tally.proofs.Verdicts.{decided, fits-sheet}
 use Rattle.tally.specs.Rounds.{inUse, donors, ofRound, heldAt}
-use Rattle.selection.specs.Choice.{donorsOf, liftsOf, heldIn, planOf, nobody, liftAt, Choice, chosen, panelFrom, panel, written, reply, output}
+use Rattle.selection.specs.Choice.{donorsOf, liftsOf, heldOfRound, planOf, noLift, liftInRound, Choice, chosen, panelFrom, panel, writtenPairs, reply, output}
 use Rattle.selection.proofs.Held.{sheet-length, sheet-short}
 use Rattle.selection.proofs.Flags.{ofRound-all, sends-has, flagged}
 use Rattle.selection.proofs.Steps.{Steps, none, some, steps, steps-count}
@@ -38,8 +38,8 @@ use Rattle.carry.proofs.Marks.{Used, all-used, carried-in, fit-next}
 -- ---- one round
 
 -- the lift at a place of a round
-carried-at : (held : Lift → Bool) (us : List Lift) (i : ℕ) → 0 < placeAt New (getD us i nobody) .measure
-    → getD (map (carried held) us) i nobody ≡ carried held (getD us i nobody)
+carried-at : (held : Lift → Bool) (us : List Lift) (i : ℕ) → 0 < placeAt New (getD us i noLift) .measure
+    → getD (map (carried held) us) i noLift ≡ carried held (getD us i noLift)
 carried-at held [] i h = absurd (omega arith)
 carried-at held (u ∷ us) zero h = refl
 carried-at held (u ∷ us) (suc i) h = carried-at held us i h
@@ -49,26 +49,26 @@ single : (x : Initial) (i : ℕ) → isHeld (heldOf x elsewhere) i ≡ true → 
 single (here j) i e = ap Single (eqb-true j i e)
 single elsewhere i e = absurd (false≢true e)
 
-module _ (ls : List Lift) (cs : List Choice) (fit : Fit (nextLifts cs ls)) {r : ℕ} (used : Used ls r) (i : ℕ) (a : Measured ls r (liftAt r ls i))
-    (is : isChosen cs (liftAt r ls i) ≡ true) where
+module _ (ls : List Lift) (cs : List Choice) (fit : Fit (nextLifts cs ls)) {r : ℕ} (used : Used ls r) (i : ℕ) (a : Measured ls r (liftInRound r ls i))
+    (is : isChosen cs (liftInRound r ls i) ≡ true) where
   abbrev next : List Lift
   next = nextLifts cs ls
 
   -- the chosen lift stands where it stood, and is held
-  stays : liftAt r next i ≡ carried (isChosen cs) (liftAt r ls i)
-  unfolding liftAt
+  stays : liftInRound r next i ≡ carried (isChosen cs) (liftInRound r ls i)
+  unfolding liftInRound
   stays = rw (ofRound-next (isChosen cs) r (used .low) ls) (carried-at (isChosen cs) (ofRound r ls) i (a .some))
 
   donor : donors r next ≡ r ∷ []
   donor =
       donors-next (isChosen cs) r (used .low) (used .high) ls
       (sends-has r r (carried-in (isChosen cs) (a .inside) (omega (arith, a .round, used .low)))
-      (rw (eq-eqb (liftAt r ls i .new .round) r (a .round), lt-ltb 0 (placeAt New (liftAt r ls i) .measure) (a .some))))
+      (rw (eq-eqb (liftInRound r ls i .new .round) r (a .round), lt-ltb 0 (placeAt New (liftInRound r ls i) .measure) (a .some))))
 
-  held : heldIn r next ≡ Single i
-  unfolding heldIn
+  held : heldOfRound r next ≡ Single i
+  unfolding heldOfRound
   held =
-      let h : isHeld (heldIn r next) i ≡ true = sym (flagged next fit r (used .low) (used .high) i) ∙ ap (λ l. l .held) stays ∙ is in
+      let h : isHeld (heldOfRound r next) i ≡ true = sym (flagged next fit r (used .low) (used .high) i) ∙ ap (λ l. l .held) stays ∙ is in
       rw donor (single (heldAt r (ofRound r next)) i (rw donor at h))
 
   -- every lift is of that donor and keeps its measure
@@ -84,10 +84,10 @@ module _ (ls : List Lift) (cs : List Choice) (fit : Fit (nextLifts cs ls)) {r : 
   unfolding planOf donorsOf
   plan-next = rw (donor, held) (still-plan _ (liftsOf r next) still i)
 
-  pub number-next : liftAt r next i .number ≡ liftAt r ls i .number
+  pub number-next : liftInRound r next i .number ≡ liftInRound r ls i .number
   number-next = ap (λ l. l .number) stays
 
-  pub outcome-next : outcome (heldIn r next) (selection i false) ≡ 1
+  pub outcome-next : outcome (heldOfRound r next) (selection i false) ≡ 1
   unfolding outcome
   outcome-next = rw (held, eq-eqb i i refl)
 
@@ -101,7 +101,7 @@ module _ (ls : List Lift) (f : Fit ls) (cs : List Choice) (fit : Fit (nextLifts 
   keep-rounds {ws} {from} u sub (some {r = r} {s = s} q k) vs start =
       let used = u r (List·Memᴰ·head refl) in
       let a = run-measured f (used .low) (used .high) (used .some) ws from q in
-      let l = liftAt r ls (s .place) in
+      let l = liftInRound r ls (s .place) in
       let is : isChosen cs l ≡ true = sub l (rw (eq-eqb (l .number) (l .number) refl)) in
       let ih = keep-rounds (λ t i. u t (List·Memᴰ·tail i)) (λ m e. sub m (rw e (or-true (eqb (l .number) (m .number))))) k vs start in
       rw (plan-next ls cs fit used (s .place) a is, number-next ls cs fit used (s .place) a is, outcome-next ls cs fit used (s .place) a is, ih)
@@ -113,7 +113,7 @@ module _ (ls : List Lift) (f : Fit ls) {ws : List ℕ} {start next : ℕ} {cs : 
   fit = fit-next f k
 
   back : lifts (nextSheet cs ls) ≡ nextLifts cs ls
-  back = written-theorem (nextLifts cs ls) (fit .listable) .back
+  back = written-theorem (nextLifts cs ls) (fit .wellFormed) .back
 
   many : length (nextLifts cs ls) ≡ length (remaining ls)
   many = length-map (remaining ls) (carried (isChosen cs))
@@ -131,7 +131,7 @@ module _ (ls : List Lift) (f : Fit ls) {ws : List ℕ} {start next : ℕ} {cs : 
   replies vs at room a b =
       rw (fitting, back, ← steps-count k, le-ltb (length vs) at a, le-ltb room (2 * length cs) b, keeps vs at, length-map cs again, sub-self at)
 
-  writes : (vs : List ℕ) (at : ℕ) (out : List ℕ) → at ≤ length vs → 2 * length cs ≤ length out → output (nextSheet cs ls) vs at out ≡ written (map again cs) out
+  writes : (vs : List ℕ) (at : ℕ) (out : List ℕ) → at ≤ length vs → 2 * length cs ≤ length out → output (nextSheet cs ls) vs at out ≡ writtenPairs (map again cs) out
   unfolding output
   writes vs at out a b = rw (replies vs at (length out) a b, back, keeps vs at)
 

@@ -10,12 +10,12 @@ use borrow.Author.Tests.{ne-eqb, ltb-true}
 use Rattle.probability.specs.Among.{among}
 use Rattle.probability.proofs.Lists.{All}
 use Rattle.sheet.specs.Sheet.{mostRounds, Lift}
-use Rattle.tally.specs.Rounds.{named, inUse}
+use Rattle.tally.specs.Rounds.{liftCount, inUse}
 use Rattle.tally.specs.Law.{Fit}
 use Rattle.sheet.specs.Lift.{Old, New}
-use Rattle.tally.proofs.Sending.{crowded-donors}
-use Rattle.tally.proofs.Those.{those-in}
-use Rattle.selection.specs.Choice.{Choice, liftAt}
+use Rattle.tally.proofs.Sending.{tooManyDonors-count}
+use Rattle.tally.proofs.Ranges.{filter-in}
+use Rattle.selection.specs.Choice.{Choice, liftInRound}
 use Rattle.selection.specs.Initial.{marked}
 use Rattle.selection.proofs.Naming.{Selected, none as selected-none, some as selected-some}
 use Rattle.selection.proofs.MarkedFits.{Unmarked, fit-marked}
@@ -32,14 +32,14 @@ noneHeld l = false
 unmarked : {ls : List Lift} → Fit ls → Unmarked (carriedOn noneHeld ls)
 unmarked {ls} f =
     record {
-      listable = record {
-        listed = listed-next noneHeld 0 ls (λ l i e. absurd (false≢true e)) (f .listable .listed);
-        few = rw (length-map (remaining ls) (carried noneHeld)) (omega (arith, remaining-few ls, f .listable .few));
+      wellFormed = record {
+        listed = listed-next noneHeld 0 ls (λ l i e. absurd (false≢true e)) (f .wellFormed .listed);
+        few = rw (length-map (remaining ls) (carried noneHeld)) (omega (arith, remaining-few ls, f .wellFormed .few));
       };
       old = λ r l h. rw (sumOf-next noneHeld Old r l ls) (f .rounds .new r l h);
       new = λ r l h. rw (sumOf-next noneHeld New r l ls) (f .rounds .new r l h);
       measured = λ r l h. rw (named-next noneHeld New r l ls, sumOf-next noneHeld New r l ls) (f .rounds .measured r l h);
-      donors = λ r l h. crowded-donors (carriedOn noneHeld ls) r ∙ few-donors noneHeld r l h ls;
+      donors = λ r l h. tooManyDonors-count (carriedOn noneHeld ls) r ∙ few-donors noneHeld r l h ls;
     }
 
 -- a lift of a new round is carried on
@@ -60,12 +60,12 @@ carried-in held {a} (List·Memᴰ·tail {x = x} {xs = ls} i) h = go (eqb (x .new
 pub record Used (ls : List Lift) (r : ℕ) : Type 0 where
   pub low : 1 ≤ r
   pub high : r ≤ mostRounds
-  pub some : 0 < named New r ls
+  pub some : 0 < liftCount New r ls
 
 pub all-used : (ls : List Lift) → All (Used ls) (inUse New ls)
 all-used ls r m =
-    let h = those-in (λ t. ltb 0 (named New t ls)) 1 mostRounds r m in
-    record { low = h .1; high = omega (arith, h .2); some = ltb-true 0 (named New r ls) (h .0) }
+    let h = filter-in (λ t. ltb 0 (liftCount New t ls)) 1 mostRounds r m in
+    record { low = h .1; high = omega (arith, h .2); some = ltb-true 0 (liftCount New r ls) (h .0) }
 
 -- the lifts chosen, as a selection: it has the numbers of the choices
 record Marks (ls : List Lift) (rs : List ℕ) (cs : List Choice) : Type 0 where
@@ -79,7 +79,7 @@ marks {ls} f {ws} {from} u (some {r = r} {s = s} q k) =
     let used = u r (List·Memᴰ·head refl) in
     let a = run-measured f (used .low) (used .high) (used .some) ws from q in
     let m = marks f (λ t i. u t (List·Memᴰ·tail i)) k in
-    let x : Lift = liftAt r ls (s .place) in
+    let x : Lift = liftInRound r ls (s .place) in
     record {
       lifts = carried noneHeld x ∷ m .lifts;
       selected = selected-some (carried-in noneHeld (a .inside) (omega (arith, a .round, used .low))) (a .round) (a .some) (m .selected);

@@ -11,9 +11,9 @@ use Rattle.probability.specs.Sum.{totalBy}
 use Rattle.sheet.specs.Sheet.{mostRounds, notCounted, oldKind, newKind, Lift}
 use Rattle.sheet.specs.Reading.{tooLarge}
 use Rattle.sheet.specs.Lift.{filledIn, placeAt, Side, Old, New}
-use Rattle.tally.specs.Rounds.{named, inUse, sumOf, sends, donors, ofRound}
-use Rattle.sheet.specs.Law.{Listed}
-use Rattle.tally.proofs.Those.{those-ext, those-none, those-only}
+use Rattle.tally.specs.Rounds.{liftCount, inUse, sumOf, sends, donors, ofRound}
+use Rattle.sheet.specs.Law.{AllWellFormed}
+use Rattle.tally.proofs.Ranges.{filter-ext, filter-none, filter-only}
 use Rattle.carry.specs.Next.{remaining, carried, carriedOn}
 
 module _ (held : Lift → Bool) where
@@ -31,7 +31,7 @@ module _ (held : Lift → Bool) where
       go true q ih = rw (ne-eqb (l .new .round) r (omega (arith, eqb-true (l .new .round) 0 q))) (omega arith)
       go false q ih = ap₂ _+_ (ap₂ (λ x y. cond (eqb x r) y 0) (k l) (e l)) ih
 
-  pub named-next : (side : Side) (r : ℕ) → 1 ≤ r → (ls : List Lift) → named side r (carriedOn held ls) ≡ named New r ls
+  pub named-next : (side : Side) (r : ℕ) → 1 ≤ r → (ls : List Lift) → liftCount side r (carriedOn held ls) ≡ liftCount New r ls
   named-next Old r h ls = totalBy-next (λ l. l .old .round) (λ _. 1) (λ _. 1) (λ l. refl) (λ l. refl) r h ls
   named-next New r h ls = totalBy-next (λ l. l .new .round) (λ _. 1) (λ _. 1) (λ l. refl) (λ l. refl) r h ls
 
@@ -40,7 +40,7 @@ module _ (held : Lift → Bool) where
   sumOf-next New r h ls = totalBy-next (λ l. l .new .round) (λ l. placeAt New l .measure) (λ l. placeAt New l .measure) (λ l. refl) (λ l. refl) r h ls
 
   pub inUse-next : (side : Side) (ls : List Lift) → inUse side (carriedOn held ls) ≡ inUse New ls
-  inUse-next side ls = those-ext 1 mostRounds (λ r l _. ap (ltb 0) (named-next side r l ls))
+  inUse-next side ls = filter-ext 1 mostRounds (λ r l _. ap (ltb 0) (named-next side r l ls))
 
   -- ---- donors
 
@@ -60,7 +60,7 @@ module _ (held : Lift → Bool) where
 
   -- its only donor, if it has one, is itself
   pub donors-next : (r : ℕ) → 1 ≤ r → r ≤ mostRounds → (ls : List Lift) → sends r r (carriedOn held ls) ≡ true → donors r (carriedOn held ls) ≡ r ∷ []
-  donors-next r l h ls e = those-only (λ t. sends t r (carriedOn held ls)) 1 mostRounds r e l (omega arith) (λ t q. sends-other t r q ls)
+  donors-next r l h ls e = filter-only (λ t. sends t r (carriedOn held ls)) 1 mostRounds r e l (omega arith) (λ t q. sends-other t r q ls)
 
   pub few-donors : (r : ℕ) → 1 ≤ r → r ≤ mostRounds → (ls : List Lift) → leb 3 (length (donors r (carriedOn held ls))) ≡ false
   few-donors r l h ls = go (sends r r (carriedOn held ls)) refl
@@ -71,7 +71,7 @@ module _ (held : Lift → Bool) where
 
       go : (x : Bool) → sends r r (carriedOn held ls) ≡ x → leb 3 (length (donors r (carriedOn held ls))) ≡ false
       go true e = rw (donors-next r l h ls e)
-      go false e = rw (those-none (λ t. sends t r (carriedOn held ls)) 1 mostRounds (λ t _ _. others t (eqb t r) refl e))
+      go false e = rw (filter-none (λ t. sends t r (carriedOn held ls)) 1 mostRounds (λ t _ _. others t (eqb t r) refl e))
 
   -- ---- lifts
 
@@ -91,8 +91,8 @@ module _ (held : Lift → Bool) where
 -- ---- what a sheet can tell
 
 -- numbers above one are above a smaller one
-listed-lower : {m n : ℕ} (ls : List Lift) → m ≤ n → Listed n ls → Listed m ls
-unfolding Listed
+listed-lower : {m n : ℕ} (ls : List Lift) → m ≤ n → AllWellFormed n ls → AllWellFormed m ls
+unfolding AllWellFormed
 listed-lower [] h d = tt
 listed-lower (l ∷ ls) h (p, d) =
     (record { rises = omega (arith, p .rises); payload = p .payload; old = p .old; new = p .new; newcomer = p .newcomer; held = p .held }, d)
@@ -106,13 +106,13 @@ filled-small m b h k = go (eqb b notCounted) refl k
     go false e k = rw e at k
 
 -- lifts carried on can be told, if those held measure something
-pub listed-next : (held : Lift → Bool) (n : ℕ) (ls : List Lift) → ((l : Lift) → List·Memᴰ l ls → held l ≡ true → 0 < placeAt New l .measure) → Listed n ls
-    → Listed n (carriedOn held ls)
-unfolding Listed remaining
+pub listed-next : (held : Lift → Bool) (n : ℕ) (ls : List Lift) → ((l : Lift) → List·Memᴰ l ls → held l ≡ true → 0 < placeAt New l .measure) → AllWellFormed n ls
+    → AllWellFormed n (carriedOn held ls)
+unfolding AllWellFormed remaining
 listed-next held n [] m d = tt
 listed-next held n (l ∷ ls) m (p, d) = go (eqb (l .new .round) 0) refl (listed-next held (l .number) ls (λ k i. m k (List·Memᴰ·tail i)) d)
   where
-    go : (x : Bool) → eqb (l .new .round) 0 ≡ x → Listed (l .number) (carriedOn held ls) → Listed n (map (carried held) (cond x (remaining ls) (l ∷ remaining ls)))
+    go : (x : Bool) → eqb (l .new .round) 0 ≡ x → AllWellFormed (l .number) (carriedOn held ls) → AllWellFormed n (map (carried held) (cond x (remaining ls) (l ∷ remaining ls)))
     go true e r = listed-lower (carriedOn held ls) (omega (arith, p .rises)) r
     go false e r = (
       record {
@@ -129,13 +129,13 @@ listed-next held n (l ∷ ls) m (p, d) = go (eqb (l .new .round) 0) refl (listed
 -- ---- how many remain
 
 -- those of new round 0 and those that remain are all
-pub remaining-counts : (ls : List Lift) → named New 0 ls + length (remaining ls) ≡ length ls
+pub remaining-counts : (ls : List Lift) → liftCount New 0 ls + length (remaining ls) ≡ length ls
 unfolding totalBy remaining
 remaining-counts [] = refl
 remaining-counts (l ∷ ls) = go (eqb (l .new .round) 0) (remaining-counts ls)
   where
-    go : (t : Bool) → named New 0 ls + length (remaining ls) ≡ length ls
-        → cond t 1 0 + named New 0 ls + length (cond t (remaining ls) (l ∷ remaining ls)) ≡ length (l ∷ ls)
+    go : (t : Bool) → liftCount New 0 ls + length (remaining ls) ≡ length ls
+        → cond t 1 0 + liftCount New 0 ls + length (cond t (remaining ls) (l ∷ remaining ls)) ≡ length (l ∷ ls)
     go true h = omega arith
     go false h = omega arith
 

@@ -6,9 +6,9 @@ use mathlib.Core.List.{List, [], _∷_, map, List·Memᴰ·head, List·Memᴰ·t
 use native.Mathlib.Omega.{arith}
 use borrow.Author.Tests.{eq-eqb, le-leb}
 use Rattle.probability.specs.Sum.{total, totalBy}
-use Rattle.probability.specs.Plan.{done, after}
+use Rattle.probability.specs.Plan.{done, bind}
 use Rattle.probability.proofs.Lists.{All}
-use Rattle.round.specs.Round.{S, U, D, sent, oldWeight, newWeight, weights, weightAt}
+use Rattle.round.specs.Round.{S, U, D, measureFrom, oldWeight, newWeight, weights, weightAt}
 use Rattle.round.specs.Choice.{selection, preliminaryBy, stayOr, keyfitz, select, plan}
 use Rattle.round.specs.declared.Donors.the-variants.{One}
 use Rattle.round.specs.declared.Held.the-variants.{Single}
@@ -26,11 +26,11 @@ still-sums (u ∷ us) h =
     ap₂ _+_ (rw (eq-eqb (u .donor) 1 (s .donor)) (s .same)) (still-sums us (λ l m. h l (List·Memᴰ·tail m)))
 
 pub still-plan : (T : ℕ) (us : List Lift) → All Still us → (i : ℕ) → plan (One T) us (Single i) ≡ done (selection i false)
-unfolding plan after preliminaryBy select keyfitz stayOr weights oldWeight newWeight D
+unfolding plan bind preliminaryBy select keyfitz stayOr weights oldWeight newWeight D
 still-plan T us h i = rw (le-leb _ _ (no-loss us h i))
   where
     no-loss : (vs : List Lift) → All Still vs → (i : ℕ)
-        → weightAt (map (λ l. record { old = sent 1 l * S us; new = l .new * U 1 us }) vs) i .old ≤ weightAt (map (λ l. record { old = sent 1 l * S us; new = l .new * U 1 us }) vs) i .new
+        → weightAt (map (λ l. record { old = measureFrom 1 l * S us; new = l .new * U 1 us }) vs) i .old ≤ weightAt (map (λ l. record { old = measureFrom 1 l * S us; new = l .new * U 1 us }) vs) i .new
     no-loss [] k i = omega arith
     no-loss (v ∷ vs) k zero =
         let s = k v (List·Memᴰ·head refl) in

@@ -5,24 +5,24 @@ use Rattle.probability.specs.Table.{allRight}
 use Rattle.probability.specs.Among.{among}
 use Rattle.probability.specs.Sum.{total, totalBy}
 use Rattle.probability.specs.Interval.{pick}
-use Rattle.probability.specs.Plan.{after}
+use Rattle.probability.specs.Plan.{bind}
 use Rattle.draw.specs.Draw.{drawFrom}
 use Rattle.draw.specs.Run.{run}
 use Rattle.round.specs.Round.{S, U, D, oldWeight, newWeight, weights, G}
 use Rattle.round.specs.Choice.{drawPlace, firstOdds, preliminaryBy, stayOr, keyfitz, select, plan, outcome}
-use Rattle.sheet.specs.Sheet.{lifts, written as writtenLifts}
+use Rattle.sheet.specs.Sheet.{lifts, wordsThen as writtenLifts}
 use Rattle.sheet.specs.Reading.{fault, readFrom}
 use Rattle.tally.specs.Verdict.{firstRound, ofRounds, verdict}
-use Rattle.tally.specs.Rounds.{those, sends, ofRound, heldAt}
-use Rattle.selection.specs.Choice.{donorsOf, liftsOf, heldIn, planOf, liftAt, panelFrom, written}
+use Rattle.tally.specs.Rounds.{filterRange, sends, ofRound, heldAt}
+use Rattle.selection.specs.Choice.{donorsOf, liftsOf, heldOfRound, planOf, liftInRound, panelFrom, writtenPairs}
 use Rattle.carry.specs.Next.{remaining}
 use Rattle.carry.specs.Reply.{replyNext, outputNext, lentSheet}
 use Rattle.carry.specs.Worked.{cases, cornerCases}
 
 pub all-right : allRight cases ≡ true
-unfolding total totalBy pick after drawFrom run S U D oldWeight newWeight weights G drawPlace firstOdds preliminaryBy stayOr keyfitz select plan outcome lifts writtenLifts fault readFrom those sends ofRound firstRound ofRounds verdict donorsOf liftsOf heldAt heldIn planOf liftAt panelFrom written remaining among replyNext outputNext lentSheet
+unfolding total totalBy pick bind drawFrom run S U D oldWeight newWeight weights G drawPlace firstOdds preliminaryBy stayOr keyfitz select plan outcome lifts writtenLifts fault readFrom filterRange sends ofRound firstRound ofRounds verdict donorsOf liftsOf heldAt heldOfRound planOf liftInRound panelFrom writtenPairs remaining among replyNext outputNext lentSheet
 all-right = refl
 
 pub corners-right : allRight cornerCases ≡ true
-unfolding total totalBy pick after drawFrom run S U D oldWeight newWeight weights G drawPlace firstOdds preliminaryBy stayOr keyfitz select plan outcome lifts writtenLifts fault readFrom those sends ofRound firstRound ofRounds verdict donorsOf liftsOf heldAt heldIn planOf liftAt panelFrom written remaining among replyNext outputNext lentSheet
+unfolding total totalBy pick bind drawFrom run S U D oldWeight newWeight weights G drawPlace firstOdds preliminaryBy stayOr keyfitz select plan outcome lifts writtenLifts fault readFrom filterRange sends ofRound firstRound ofRounds verdict donorsOf liftsOf heldAt heldOfRound planOf liftInRound panelFrom writtenPairs remaining among replyNext outputNext lentSheet
 corners-right = refl

@@ -10,10 +10,10 @@ use lib.ListN.{length, getD, set, drop, length-append, length-drop, length-map}
 use lib.Seq.{sets, sets-eq, take-at, drop-append-add, drop-drop}
 use borrow.Author.Tests.{eq-eqb, ne-eqb}
 use Rattle.probability.specs.Sum.{indicator}
-use Rattle.sheet.specs.Sheet.{mostLifts, mostRounds, notCounted, liftKind, oldKind, newKind, heldKind, endKind, Lift, liftOf, lifts, word, placeWord, wordsOf, written, sheetOf}
+use Rattle.sheet.specs.Sheet.{mostLifts, mostRounds, notCounted, liftKind, oldKind, newKind, heldKind, endKind, Lift, liftOf, lifts, word, placeWord, liftWords, wordsThen, sheetOf}
 use Rattle.sheet.specs.Reading.{Legible}
 use Rattle.sheet.specs.Lift.{placeAt, entryOf, New}
-use Rattle.tally.specs.Rounds.{named}
+use Rattle.tally.specs.Rounds.{liftCount}
 use Rattle.reply.specs.Reply.{onto}
 use Rattle.tally.specs.Tables.{table}
 use Rattle.sheet.specs.declared.lifts.Entry.{Entry}
@@ -26,12 +26,12 @@ use Rattle.carry.proofs.Rounds.{remaining-counts, remaining-few}
 -- ---- how many remain
 
 -- those of new round 0 and those that remain are all
-pub remaining-all : (ls : List Lift) {counts : List ℕ} → counts ≡ table (λ r. named New r ls) → getD counts 0 0 + length (remaining ls) ≡ length ls
-remaining-all ls e = rw (e, getD-tabulate (mostRounds + 1) (λ r. named New r ls) 0 (omega arith)) (remaining-counts ls)
+pub remaining-all : (ls : List Lift) {counts : List ℕ} → counts ≡ table (λ r. liftCount New r ls) → getD counts 0 0 + length (remaining ls) ≡ length ls
+remaining-all ls e = rw (e, getD-tabulate (mostRounds + 1) (λ r. liftCount New r ls) 0 (omega arith)) (remaining-counts ls)
 
 -- the lifts that remain have room in the end word
 pub remaining-fit : {ws : List ℕ} → Legible ws → length (remaining (lifts ws)) ≤ mostLifts
-remaining-fit {ws} l = omega (arith, remaining-few (lifts ws), read-theorem ws (l .read) .listable .few)
+remaining-fit {ws} l = omega (arith, remaining-few (lifts ws), read-theorem ws (l .read) .wellFormed .few)
 
 -- ---- the words of a lift
 
@@ -60,11 +60,11 @@ Put next k ws k′ next′ = (k′ ≡ k + length ws) × (next′ ≡ sets next 
 
 module _ (held : Lift → Bool) (l : Lift) where
   words-none : l .new .round ≡ 0 → wordsOn held l ≡ []
-  unfolding wordsOn remaining written
+  unfolding wordsOn remaining wordsThen
   words-none h = rw (eq-eqb (l .new .round) 0 h)
 
-  words-some : (l .new .round ≡ 0 → ⊥) → wordsOn held l ≡ wordsOf (carried held l)
-  unfolding wordsOn remaining written
+  words-some : (l .new .round ≡ 0 → ⊥) → wordsOn held l ≡ liftWords (carried held l)
+  unfolding wordsOn remaining wordsThen
   words-some h = rw (ne-eqb (l .new .round) 0 h) (append-nil _)
 
   pub words-three : (l .new .round ≡ 0 → ⊥) → 3 ≤ length (wordsOn held l)
@@ -104,13 +104,13 @@ onto-more done ws room {k} e h =
 
 module _ (held : Lift → Bool) where
   -- the words of the first of some lifts, and of the others
-  written-first : (l : Lift) (ls : List Lift) (end : List ℕ) → written (carriedOn held (l ∷ ls)) end ≡ wordsOn held l ++ written (carriedOn held ls) end
-  unfolding written remaining wordsOn
+  written-first : (l : Lift) (ls : List Lift) (end : List ℕ) → wordsThen (carriedOn held (l ∷ ls)) end ≡ wordsOn held l ++ wordsThen (carriedOn held ls) end
+  unfolding wordsThen remaining wordsOn
   written-first l ls end = go (eqb (l .new .round) 0)
     where
-      go : (t : Bool) → written (map (carried held) (cond t (remaining ls) (l ∷ remaining ls))) end ≡ written (map (carried held) (cond t [] (l ∷ []))) [] ++ written (carriedOn held ls) end
+      go : (t : Bool) → wordsThen (map (carried held) (cond t (remaining ls) (l ∷ remaining ls))) end ≡ wordsThen (map (carried held) (cond t [] (l ∷ []))) [] ++ wordsThen (carriedOn held ls) end
       go true = refl
-      go false = ap (λ us. us ++ written (carriedOn held ls) end) (sym (append-nil (wordsOf (carried held l))))
+      go false = ap (λ us. us ++ wordsThen (carriedOn held ls) end) (sym (append-nil (liftWords (carried held l))))
 
   -- the end word of the lifts that remain
   abbrev endOf : List ℕ → List ℕ
@@ -122,15 +122,15 @@ module _ (held : Lift → Bool) where
     pub done : List ℕ
     pub is : next ≡ onto done room
     pub long : length done ≡ k
-    pub ahead : done ++ written (carriedOn held (lifts (drop i ws))) (endOf ws) ≡ sheetOf (carriedOn held (lifts ws))
+    pub ahead : done ++ wordsThen (carriedOn held (lifts (drop i ws))) (endOf ws) ≡ sheetOf (carriedOn held (lifts ws))
 
   pub writing-none : {ws room : List ℕ} → Legible ws → Writing ws room room 0 0
   writing-none l = record { between = between-none l; done = []; is = refl; long = refl; ahead = refl }
 
   module _ {ws room next : List ℕ} {i k : ℕ} (d : Writing ws room next i k) (fits : length (sheetOf (carriedOn held (lifts ws))) ≤ length room) where
     -- what is left to write has room
-    left-fits : k + length (written (carriedOn held (lifts (drop i ws))) (endOf ws)) ≤ length room
-    left-fits = omega (arith, d .long, length-append (d .done) (written (carriedOn held (lifts (drop i ws))) (endOf ws)), ap length (d .ahead))
+    left-fits : k + length (wordsThen (carriedOn held (lifts (drop i ws))) (endOf ws)) ≤ length room
+    left-fits = omega (arith, d .long, length-append (d .done) (wordsThen (carriedOn held (lifts (drop i ws))) (endOf ws)), ap length (d .ahead))
 
     pub same-long : length next ≡ length room
     same-long = rw (d .is, length-append, length-drop) (omega (arith, d .long, left-fits))
@@ -140,8 +140,8 @@ module _ (held : Lift → Bool) where
         let t = turn (d .between) h in
         let here = t .here in
         let l = liftOf (drop i ws) in
-        let rest = written (carriedOn held (lifts (drop (behind ws i) ws))) (endOf ws) in
-        let e : length (written (carriedOn held (lifts (drop i ws))) (endOf ws)) ≡ length (wordsOn held l) + length rest =
+        let rest = wordsThen (carriedOn held (lifts (drop (behind ws i) ws))) (endOf ws) in
+        let e : length (wordsThen (carriedOn held (lifts (drop i ws))) (endOf ws)) ≡ length (wordsOn held l) + length rest =
         rw (here, written-first l (lifts (drop (behind ws i) ws)) (endOf ws), length-append (wordsOn held l) rest) in
         omega (arith, left-fits, e)
 
@@ -167,7 +167,7 @@ module _ (held : Lift → Bool) where
     module _ (h : length ws ≤ i + 1) where
       -- the end word is all that is left
       end-left : d .done ++ endOf ws ≡ sheetOf (carriedOn held (lifts ws))
-      unfolding written remaining
+      unfolding wordsThen remaining
       end-left = let e = last (d .between) h in rw e at (d .ahead)
 
       pub end-fits : k < length room

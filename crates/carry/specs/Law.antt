@@ -9,7 +9,7 @@ use Rattle.tally.specs.Verdict.{fits, verdict}
 use Rattle.reply.specs.Reply.{replied}
 use Rattle.tally.specs.Law.{Fit}
 use Rattle.sheet.specs.Lift.{New}
-use Rattle.selection.specs.Choice.{Choice, chosen, panel, written, reply, output}
+use Rattle.selection.specs.Choice.{Choice, chosen, panel, writtenPairs, reply, output}
 use Rattle.carry.specs.Next.{remaining, nextLifts, nextSheet, wordsNeeded}
 
 -- a choice made again: its lift is kept, and nothing is drawn
@@ -28,7 +28,7 @@ pub record Carries (ls : List Lift) (cs : List Choice) : Type 0 where
   pub keeps : (ws : List ℕ) (start : ℕ) → panel (nextLifts cs ls) ws start ≡ chosen (map again cs) start
   pub replies : (ws : List ℕ) (start room : ℕ) → start ≤ length ws → 2 * length cs ≤ room → reply (nextSheet cs ls) ws start room ≡ replied (length cs) 0
   pub writes : (ws : List ℕ) (start : ℕ) (out : List ℕ) → start ≤ length ws → 2 * length cs ≤ length out
-      → output (nextSheet cs ls) ws start out ≡ written (map again cs) out
+      → output (nextSheet cs ls) ws start out ≡ writtenPairs (map again cs) out
 
 -- so it is for all random words, every start and the choices that they give
 abbrev pub CarriesAll : List Lift → Type 0

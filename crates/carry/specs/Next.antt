@@ -5,7 +5,7 @@ use mathlib.Core.List.{List, [], _∷_, map}
 use lib.Dec.{eqb}
 use lib.ListN.{length, getD}
 use Rattle.probability.specs.Among.{among}
-use Rattle.sheet.specs.Sheet.{notCounted, Place, Lift, written, sheetOf}
+use Rattle.sheet.specs.Sheet.{notCounted, Place, Lift, wordsThen, sheetOf}
 use Rattle.sheet.specs.Lift.{placeAt, New}
 use Rattle.selection.specs.Choice.{Choice}
 
@@ -50,4 +50,4 @@ inTable table l = eqb (getD table (l .new .round) 0) (l .number)
 
 -- the words that a lift has in next quarter's sheet, none where it is withdrawn
 unfoldable pub wordsOn : (Lift → Bool) → Lift → List ℕ
-wordsOn held l = written (carriedOn held (l ∷ [])) []
+wordsOn held l = wordsThen (carriedOn held (l ∷ [])) []

@@ -7,7 +7,7 @@ use lib.ListN.{length}
 use Rattle.sheet.specs.Sheet.{Lift, lifts}
 use Rattle.reply.specs.Reply.{numbered, Reply, ofRefusal, onto, unlessRefused}
 use Rattle.tally.specs.Verdict.{verdict, ofVerdict}
-use Rattle.selection.specs.Choice.{Panel, chosen, short, panel, ofPanel, unlessLacking, writtenOf}
+use Rattle.selection.specs.Choice.{Panel, chosen, short, panel, ofPanel, unlessLacking, writtenPanel}
 use Rattle.carry.specs.Next.{nextSheet, wordsNeeded}
 
 -- "17 when the lent sheet has too few words; place the words needed, after 12 and before 13."
@@ -22,7 +22,7 @@ replyNext sheet ws start room space = ofVerdict (verdict sheet) (λ rounds. ofLe
 
 -- the output after the call
 unfoldable pub outputNext : List ℕ → List ℕ → ℕ → List ℕ → ℕ → List ℕ
-outputNext sheet ws start out space = unlessRefused (replyNext sheet ws start (length out) space) out (writtenOf (panel (lifts sheet) ws start) out)
+outputNext sheet ws start out space = unlessRefused (replyNext sheet ws start (length out) space) out (writtenPanel (panel (lifts sheet) ws start) out)
 
 -- the next sheet of a panel, written to a lent one
 abbrev pub carriedTo : Panel → List Lift → List ℕ → List ℕ

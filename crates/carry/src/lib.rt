@@ -5,7 +5,7 @@ ghost use lib.ListN.{length, drop};
 ghost use lib.Seq.{sets};
 ghost use Rattle.sheet.specs.Sheet.{mostRounds, oldKind, newKind, liftOf, lifts as liftsOfSheet, placeWord, sheetOf};
 ghost use Rattle.sheet.specs.Reading.{Legible};
-ghost use Rattle.sheet.specs.Lift.{placeAt, New, Marked};
+ghost use Rattle.sheet.specs.Lift.{placeAt, New, MarkSound};
 ghost use Rattle.tally.specs.Tables.{Tabled};
 ghost use Rattle.reply.specs.Reply.{onto};
 ghost use Rattle.carry.specs.Next.{remaining as remainingOf, uncounted, carriedOn, inTable, wordsOn};
@@ -25,7 +25,7 @@ pub fn remaining(sheet: &[u32], t: Tallies) -> usize
 // The word of the old place of the lift at position i in the next quarter.
 fn old_word(sheet: &[u32], i: usize) -> u32
     requires { ⌜ i + 3 < length (now sheet) ⌝ }
-    requires { ⌜ Marked (drop i (now sheet)) ⌝ }
+    requires { ⌜ MarkSound (drop i (now sheet)) ⌝ }
     ensures { λ r. ⌜ r ≡ placeWord oldKind (placeAt New (liftOf (drop i (now (sheet .entry))))) ⌝ }
 {
     let l = sheet::entry_at(sheet, i);
@@ -35,7 +35,7 @@ fn old_word(sheet: &[u32], i: usize) -> u32
 // The word of the new place of the lift at position i in the next quarter.
 fn new_word(sheet: &[u32], i: usize) -> u32
     requires { ⌜ i + 3 < length (now sheet) ⌝ }
-    requires { ⌜ Marked (drop i (now sheet)) ⌝ }
+    requires { ⌜ MarkSound (drop i (now sheet)) ⌝ }
     ensures { λ r. ⌜ r ≡ placeWord newKind (uncounted (liftOf (drop i (now (sheet .entry))))) ⌝ }
 {
     let l = sheet::entry_at(sheet, i);
@@ -48,7 +48,7 @@ fn new_word(sheet: &[u32], i: usize) -> u32
 // Whether the lift at position i is chosen, from the numbers of the lifts chosen by new round.
 fn is_chosen(sheet: &[u32], i: usize, chosen: &[u32; Sheet::TABLE]) -> bool
     requires { ⌜ i + 3 < length (now sheet) ⌝ }
-    requires { ⌜ Marked (drop i (now sheet)) ⌝ }
+    requires { ⌜ MarkSound (drop i (now sheet)) ⌝ }
     requires { ⌜ liftOf (drop i (now sheet)) .new .round ≤ mostRounds ⌝ }
     ensures { λ r. ⌜ r ≡ inTable (now (chosen .entry)) (liftOf (drop i (now (sheet .entry)))) ⌝ }
 {
@@ -66,7 +66,7 @@ fn write_lift(
     at: usize,
 ) -> usize
     requires { ⌜ i + 3 < length (now sheet) ⌝ }
-    requires { ⌜ Marked (drop i (now sheet)) ⌝ }
+    requires { ⌜ MarkSound (drop i (now sheet)) ⌝ }
     requires { ⌜ liftOf (drop i (now sheet)) .new .round ≤ mostRounds ⌝ }
     requires { ⌜ at + length (wordsOn (inTable (now chosen)) (liftOf (drop i (now sheet)))) ≤ length (now next) ⌝ }
     ensures behind { λ r. ⌜ r ≡ at + length (wordsOn (inTable (now (chosen .entry))) (liftOf (drop i (now (sheet .entry))))) ⌝ }

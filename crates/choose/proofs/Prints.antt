@@ -6,11 +6,11 @@ use lib.ListN.{length, take}
 use Rattle.sheet.specs.Sheet.{longest}
 use Rattle.report.specs.Report.{mostWords, report}
 use Rattle.report.proofs.Reports.{report-first}
-use Rattle.choose.specs.Printing.{Read, Printed}
+use Rattle.choose.specs.Printing.{FilesRead, Printed}
 use Rattle.choose.specs.declared.Extent.{Extent}
 
 module _ (sheet : List ℕ) (extent : Extent) (words : List ℕ) (count : ℕ) (s : length sheet ≡ 4 * longest) (w : length words ≡ 8 * mostWords) where
-  whole : (sheet-bin words-bin : List ℕ) → Read sheet-bin words-bin sheet extent words count
+  whole : (sheet-bin words-bin : List ℕ) → FilesRead sheet-bin words-bin sheet extent words count
       → report (take (extent .kept) sheet) (extent .size) (take count words) ≡ report sheet-bin (length sheet-bin) words-bin
   whole sheet-bin words-bin r = rw (r .sheet-read, r .words-read, r .counted, s, w) (report-first sheet-bin (length sheet-bin) words-bin)
 

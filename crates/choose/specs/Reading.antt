@@ -5,9 +5,9 @@ use Rattle.choose.specs.declared.Got.{Got}
 use Rattle.choose.specs.declared.Got.the-variants.{Bytes, Failed}
 
 -- at most so many bytes, or a failure
-abbrev pub Within : ℕ → Got → Type 0
-Within most (Bytes n) = n ≤ most
-Within most Failed = Unit {0}
+abbrev pub ReadsAtMost : ℕ → Got → Type 0
+ReadsAtMost most (Bytes n) = n ≤ most
+ReadsAtMost most Failed = Unit {0}
 
 -- the size of a file of which so many bytes were kept, all of them or as many as there was room for; or a failure
 abbrev pub Extends : ℕ → ℕ → Got → Type 0

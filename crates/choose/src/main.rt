@@ -5,7 +5,7 @@ ghost use lib.ListN.{length};
 ghost use Rattle.io.specs.Counts.{Counts};
 ghost use Rattle.sheet.specs.Sheet.{longest};
 ghost use Rattle.report.specs.Report.{mostWords};
-ghost use Rattle.choose.specs.Reading.{Within, Extends};
+ghost use Rattle.choose.specs.Reading.{ReadsAtMost, Extends};
 ghost use Rattle.choose.specs.Printing.{Printed};
 use libc::STDOUT_FILENO;
 use sheet::Sheet;
@@ -90,7 +90,7 @@ fn read_all(file: i32, bytes: &mut [u8]) -> Extent
 
 // Reads until the bytes are full or the file ends.
 fn fill(file: i32, bytes: &mut [u8]) -> Got
-    ensures { λ r. ⌜ Within (length (now (bytes .exit))) r ⌝ }
+    ensures { λ r. ⌜ ReadsAtMost (length (now (bytes .exit))) r ⌝ }
 {
     let mut done = 0;
     while done < bytes.len() {
@@ -138,7 +138,7 @@ fn count_on(file: i32, kept: usize, room: usize) -> Got
 
 // Reads a piece that nothing keeps.
 fn read_piece(file: i32) -> Got
-    ensures { λ r. ⌜ Within 65536 r ⌝ }
+    ensures { λ r. ⌜ ReadsAtMost 65536 r ⌝ }
 {
     let mut piece = io::large_buffer();
     read_some(file, &mut piece)
@@ -146,7 +146,7 @@ fn read_piece(file: i32) -> Got
 
 // Reads once; a read that a signal interrupts is tried again.
 fn read_some(file: i32, bytes: &mut [u8]) -> Got
-    ensures { λ r. ⌜ Within (length (now (bytes .entry))) r ⌝ }
+    ensures { λ r. ⌜ ReadsAtMost (length (now (bytes .entry))) r ⌝ }
 {
     let mut tries = 0;
     while tries < MOST_TRIES {
@@ -173,7 +173,7 @@ fn print_report(sheet: &[u8], extent: Extent, words: &[u8], count: usize)
 {
     let kept = extent.kept;
     let size = extent.size;
-    let mut text = [0u8; report::ROOM];
+    let mut text = [0u8; report::TEXT_ROOM];
     let n = report::report(&sheet[..kept], size, &words[..count], &mut text);
     print(&text[..n], sheet, extent, words, count);
 }

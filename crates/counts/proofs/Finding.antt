@@ -10,7 +10,7 @@ use borrow.Author.Tests.{eqb-true, eqb-false, eq-eqb, ne-eqb, leb-true, leb-fals
 use Rattle.probability.specs.Sum.{indicator}
 use Rattle.sheet.specs.Sheet.{mostLifts}
 use Rattle.probability.specs.Among.{among}
-use Rattle.counts.specs.Scan.{RisingAbove, Numbers, cutAt}
+use Rattle.counts.specs.Scan.{RisingAbove, LiftNumbers, cutAt}
 
 -- each number is above the bound, and above those before it
 pub rising-above : (b : ℕ) (ns : List ℕ) → RisingAbove b ns → (j : ℕ) → j < length ns → b < getD ns j 0
@@ -33,10 +33,10 @@ pub record Narrowed (ns : List ℕ) (n low size : ℕ) : Type 0 where
   pub below : (j : ℕ) → j < low → getD ns j 0 < n
   pub above : (j : ℕ) → low + size ≤ j → j < length ns → n < getD ns j 0
 
-pub narrowed-none : {ns : List ℕ} (n : ℕ) → Numbers ns → Narrowed ns n 0 4096
+pub narrowed-none : {ns : List ℕ} (n : ℕ) → LiftNumbers ns → Narrowed ns n 0 4096
 narrowed-none n r = record { some = omega arith; inside = omega arith; below = λ j h. absurd (omega arith); above = λ j h k. absurd (omega (arith, r .few)) }
 
-module _ {ns : List ℕ} {n low size half : ℕ} (r : Numbers ns) (d : Narrowed ns n low size) (more : 1 < size) (e : half ≡ size / 2) where
+module _ {ns : List ℕ} {n low size half : ℕ} (r : LiftNumbers ns) (d : Narrowed ns n low size) (more : 1 < size) (e : half ≡ size / 2) where
   pub narrowed-room : low + half ≤ mostLifts
   narrowed-room = omega (arith, d .inside)
 

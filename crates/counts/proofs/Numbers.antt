@@ -60,12 +60,12 @@ clamp-value v (b ∷ bs) =
 
 -- ---- the loop over digits
 
-pub record Reading (text : List ℕ) (start v i : ℕ) : Type 0 where
+pub record DigitsRead (text : List ℕ) (start v i : ℕ) : Type 0 where
   pub same : clamp (valueFrom v (leading (drop i text))) ≡ clamp (value (leading (drop start text)))
   pub ends : i + span (drop i text) ≡ start + span (drop start text)
   pub small : v ≤ cap
 
-pub reading-none : (text : List ℕ) (start : ℕ) → Reading text start 0 start
+pub reading-none : (text : List ℕ) (start : ℕ) → DigitsRead text start 0 start
 reading-none text start = record { same = refl; ends = refl; small = omega arith }
 
 span-digit : (b : ℕ) (bs : List ℕ) → isDigit b ≡ true → span (b ∷ bs) ≡ suc (span bs)
@@ -76,8 +76,8 @@ span-other : (b : ℕ) (bs : List ℕ) → isDigit b ≡ false → span (b ∷ b
 unfolding span
 span-other b bs h = rw h
 
-module _ {text : List ℕ} {start v i : ℕ} (r : Reading text start v i) where
-  pub reading-turn : {w : ℕ} → i < length text → isDigit (getD text i 0) ≡ true → w ≡ clamp (v * 10 + (getD text i 0 - 48)) → Reading text start w (i + 1)
+module _ {text : List ℕ} {start v i : ℕ} (r : DigitsRead text start v i) where
+  pub reading-turn : {w : ℕ} → i < length text → isDigit (getD text i 0) ≡ true → w ≡ clamp (v * 10 + (getD text i 0 - 48)) → DigitsRead text start w (i + 1)
   unfolding valueFrom
   reading-turn {w} h d e =
       let b = getD text i 0 in

@@ -12,7 +12,7 @@ use lib.ListN.{length, getD, set, take, drop, drop-of-length-le, length-set, len
 use lib.Seq.{drop-drop, drop-at, drop-cons, getD-drop, take-suc-set, take-all}
 use borrow.Author.Tests.{ltb-true, ltb-false, eq-eqb, ne-eqb}
 use Rattle.probability.specs.Sum.{indicator}
-use Rattle.sheet.specs.Sheet.{newKind, endKind, placeOf, Lift, liftOf, lifts, word, placeWord, wordsOf, written, sheetOf}
+use Rattle.sheet.specs.Sheet.{newKind, endKind, placeOf, Lift, liftOf, lifts, word, placeWord, liftWords, wordsThen, sheetOf}
 use Rattle.sheet.specs.Reading.{Legible}
 use Rattle.sheet.proofs.Walks.{Between, between-none, Turn, turn, last, inside, moved, behind as past}
 use Rattle.counts.specs.Counts.{numbersOf, measuredBy}
@@ -73,18 +73,18 @@ set-append (x ∷ xs) ys k v = let e : suc (length xs) + k ≡ suc (length xs + 
 
 -- a lift's words with the measure of a slot
 words-with : (l : Lift) (v w : ℕ) (rest : List ℕ) → w ≡ cond (eqb v 0) (placeWord newKind (l .new)) (placeWord newKind (record { round = l .new .round; measure = v - 1 }))
-    → set (wordsOf l ++ rest) 2 w ≡ wordsOf (liftWith l v) ++ rest
+    → set (liftWords l ++ rest) 2 w ≡ liftWords (liftWith l v) ++ rest
 words-with l v w rest e = rw e (go (eqb v 0))
   where
-    go : (t : Bool) → set (wordsOf l ++ rest) 2 (cond t (placeWord newKind (l .new)) (placeWord newKind (record { round = l .new .round; measure = v - 1 })))
-        ≡ wordsOf (measuredBy l (cond t none (some (v - 1)))) ++ rest
+    go : (t : Bool) → set (liftWords l ++ rest) 2 (cond t (placeWord newKind (l .new)) (placeWord newKind (record { round = l .new .round; measure = v - 1 })))
+        ≡ liftWords (measuredBy l (cond t none (some (v - 1)))) ++ rest
     go true = refl
     go false = refl
 
-with-length : (l : Lift) (v : ℕ) → length (wordsOf (liftWith l v)) ≡ 3 + indicator (l .held)
+with-length : (l : Lift) (v : ℕ) → length (liftWords (liftWith l v)) ≡ 3 + indicator (l .held)
 with-length l v = go (eqb v 0) (l .held)
   where
-    go : (t h : Bool) → length (wordsOf (measuredBy (record { number = l .number; old = l .old; new = l .new; held = h }) (cond t none (some (v - 1))))) ≡ 3 + indicator h
+    go : (t h : Bool) → length (liftWords (measuredBy (record { number = l .number; old = l .old; new = l .new; held = h }) (cond t none (some (v - 1))))) ≡ 3 + indicator h
     go true true = refl
     go true false = refl
     go false true = refl
@@ -96,8 +96,8 @@ lifts-with-length [] vs = refl
 lifts-with-length (l ∷ ls) vs = ap suc (lifts-with-length ls (drop 1 vs))
 
 -- the words of the lift at a position
-words-here : {ws : List ℕ} {i : ℕ} → Between ws i → Turn ws i → drop i ws ≡ wordsOf (liftOf (drop i ws)) ++ drop (past ws i) ws
-unfolding written
+words-here : {ws : List ℕ} {i : ℕ} → Between ws i → Turn ws i → drop i ws ≡ liftWords (liftOf (drop i ws)) ++ drop (past ws i) ws
+unfolding wordsThen
 words-here {ws} {i} b t =
     let here = t .here in
     let back = t .next .back in
@@ -108,7 +108,7 @@ pub record Putting (ws vs out : List ℕ) (i k : ℕ) : Type 0 where
   pub front : List ℕ
   pub is : out ≡ front ++ drop i ws
   pub size : length front ≡ i
-  pub done : front ++ written (liftsWith (lifts (drop i ws)) (drop k vs)) (word endKind (length (lifts ws)) ∷ []) ≡ sheetOf (liftsWith (lifts ws) vs)
+  pub done : front ++ wordsThen (liftsWith (lifts (drop i ws)) (drop k vs)) (word endKind (length (lifts ws)) ∷ []) ≡ sheetOf (liftsWith (lifts ws) vs)
   pub left : k + length (lifts (drop i ws)) ≡ length vs
 
 pub putting-none : {ws vs : List ℕ} → Legible ws → length vs ≡ length (lifts ws) → Putting ws vs ws 0 0
@@ -135,7 +135,7 @@ module _ {ws vs out : List ℕ} {i k : ℕ} (d : Putting ws vs out i k) where
 
   pub putting-turn : k < length vs → {w m : ℕ} {out′ : List ℕ} → w ≡ wordWith (getD out (i + 2) 0) (getD vs k 0) → m ≡ indicator (liftOf (drop i out) .held)
       → out′ ≡ set out (i + 2) w → Putting ws vs out′ (i + (3 + m)) (k + 1)
-  unfolding written liftsWith
+  unfolding wordsThen liftsWith
   putting-turn h {w} {m} {out′} ew em eo =
       let t = putting-at h in
       let l = liftOf (drop i ws) in
@@ -148,21 +148,21 @@ module _ {ws vs out : List ℕ} {i k : ℕ} (d : Putting ws vs out i k) where
       ew ∙ rw read-new (ap (λ x. cond (eqb v 0) x (placeWord newKind (record { round = l .new .round; measure = v - 1 }))) g) in
       rw n (record {
         between = t .next;
-        front = d .front ++ wordsOf (liftWith l v);
-        is = eo ∙ at-front l v w z (drop (past ws i) ws) words ∙ sym (append-assoc (d .front) (wordsOf (liftWith l v)) (drop (past ws i) ws));
-        size = length-append (d .front) (wordsOf (liftWith l v)) ∙ (omega (arith, d .size, with-length l v));
-        done = append-assoc (d .front) (wordsOf (liftWith l v)) _ ∙ (rw (here, getD-drop k vs 0 0, add-zero k, drop-drop 1 k vs) at (d .done));
+        front = d .front ++ liftWords (liftWith l v);
+        is = eo ∙ at-front l v w z (drop (past ws i) ws) words ∙ sym (append-assoc (d .front) (liftWords (liftWith l v)) (drop (past ws i) ws));
+        size = length-append (d .front) (liftWords (liftWith l v)) ∙ (omega (arith, d .size, with-length l v));
+        done = append-assoc (d .front) (liftWords (liftWith l v)) _ ∙ (rw (here, getD-drop k vs 0 0, add-zero k, drop-drop 1 k vs) at (d .done));
         left = omega (arith, one-less t, d .left);
       })
     where
       at-front : (l : Lift) (v w : ℕ) → w ≡ cond (eqb v 0) (placeWord newKind (l .new)) (placeWord newKind (record { round = l .new .round; measure = v - 1 }))
-          → (rest : List ℕ) → drop i ws ≡ wordsOf l ++ rest → set out (i + 2) w ≡ d .front ++ (wordsOf (liftWith l v) ++ rest)
+          → (rest : List ℕ) → drop i ws ≡ liftWords l ++ rest → set out (i + 2) w ≡ d .front ++ (liftWords (liftWith l v) ++ rest)
       at-front l v w z rest q =
           let s = d .size in
-          rw (d .is, q, ← s, set-append (d .front) (wordsOf l ++ rest) 2 w) (ap (λ xs. d .front ++ xs) (words-with l v w rest z))
+          rw (d .is, q, ← s, set-append (d .front) (liftWords l ++ rest) 2 w) (ap (λ xs. d .front ++ xs) (words-with l v w rest z))
 
   pub putting-end : length vs ≤ k → out ≡ sheetOf (liftsWith (lifts ws) vs)
-  unfolding written liftsWith
+  unfolding wordsThen liftsWith
   putting-end h =
       let e : lifts (drop i ws) ≡ [] = no-lifts (lifts (drop i ws)) (omega (arith, d .left)) in
       let b = d .between .back in

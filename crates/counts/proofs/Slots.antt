@@ -12,10 +12,10 @@ use borrow.Author.Tests.{eqb-true, eqb-false, eq-eqb, ne-eqb, leb-true}
 use Rattle.sheet.specs.Sheet.{largestSum, Lift}
 use Rattle.tally.specs.declared.Found.{Found}
 use Rattle.tally.specs.declared.Found.the-variants.{At, Nothing}
-use Rattle.counts.specs.Text.{LF, lines, before, behind, allDigits, value, empty, isNumber, largestLift, largestCount, Entry, counted, malformed, entry}
+use Rattle.counts.specs.Text.{LF, lines, beforeComma, behindComma, allDigits, value, empty, isNumber, largestLift, largestCount, CountLine, counted, malformed, countLine}
 use Rattle.probability.specs.Among.{among}
 use Rattle.counts.specs.Counts.{atLine, linesFrom, numbersOf, hundreds, measureBy, measureFor, measuredBy, measured}
-use Rattle.counts.specs.Scan.{line, extent, lineOf, lineAt, RisingAbove, Numbers, Located, slotOf, slot, slots, Tells, liftWith, liftsWith}
+use Rattle.counts.specs.Scan.{firstLine, extent, lineOf, lineAt, RisingAbove, LiftNumbers, Located, slotOf, slot, slots, LinesAnswered, liftWith, liftsWith}
 use Rattle.counts.specs.declared.text.Line.{Line}
 use Rattle.counts.specs.declared.text.Line.the-variants.{Entry as EntryLine, Malformed}
 use Rattle.counts.specs.declared.lines.Lines.the-variants.{Faulty, All}
@@ -32,24 +32,24 @@ slot-at xs (n ∷ ns) zero h = refl
 slot-at xs (n ∷ ns) (suc k) h = slot-at xs ns k (omega arith)
 
 -- one line more fills a slot that is free
-slot-last : (xs : List (List ℕ)) (x : List ℕ) (n : ℕ) → slot (xs ++ (x ∷ [])) n ≡ cond (eqb (slot xs n) 0) (slotOf (measureBy (entry x) n none)) (slot xs n)
+slot-last : (xs : List (List ℕ)) (x : List ℕ) (n : ℕ) → slot (xs ++ (x ∷ [])) n ≡ cond (eqb (slot xs n) 0) (slotOf (measureBy (countLine x) n none)) (slot xs n)
 unfolding measureFor
 slot-last [] x n = refl
-slot-last (y ∷ ys) x n = go (entry y) (slot-last ys x n)
+slot-last (y ∷ ys) x n = go (countLine y) (slot-last ys x n)
   where
-    go : (e : Entry) → slot (ys ++ (x ∷ [])) n ≡ cond (eqb (slot ys n) 0) (slotOf (measureBy (entry x) n none)) (slot ys n)
+    go : (e : CountLine) → slot (ys ++ (x ∷ [])) n ≡ cond (eqb (slot ys n) 0) (slotOf (measureBy (countLine x) n none)) (slot ys n)
         → slotOf (measureBy e n (measureFor (ys ++ (x ∷ [])) n))
-        ≡ cond (eqb (slotOf (measureBy e n (measureFor ys n))) 0) (slotOf (measureBy (entry x) n none)) (slotOf (measureBy e n (measureFor ys n)))
+        ≡ cond (eqb (slotOf (measureBy e n (measureFor ys n))) 0) (slotOf (measureBy (countLine x) n none)) (slotOf (measureBy e n (measureFor ys n)))
     go malformed h = h
     go (counted m c) h = by (eqb m n)
       where
         by : (t : Bool) → slotOf (cond t (some (hundreds c)) (measureFor (ys ++ (x ∷ [])) n))
-            ≡ cond (eqb (slotOf (cond t (some (hundreds c)) (measureFor ys n))) 0) (slotOf (measureBy (entry x) n none)) (slotOf (cond t (some (hundreds c)) (measureFor ys n)))
+            ≡ cond (eqb (slotOf (cond t (some (hundreds c)) (measureFor ys n))) 0) (slotOf (measureBy (countLine x) n none)) (slotOf (cond t (some (hundreds c)) (measureFor ys n)))
         by true = rw (ne-eqb (hundreds c + 1) 0 (omega arith))
         by false = h
 
 -- another lift's line fills none
-module _ (xs : List (List ℕ)) (x : List ℕ) {n c : ℕ} (e : entry x ≡ counted n c) where
+module _ (xs : List (List ℕ)) (x : List ℕ) {n c : ℕ} (e : countLine x ≡ counted n c) where
   slot-other : (m : ℕ) → (n ≡ m → ⊥) → slot (xs ++ (x ∷ [])) m ≡ slot xs m
   slot-other m o = rw (slot-last xs x m, e, ne-eqb n m o) (go (eqb (slot xs m) 0) refl)
     where
@@ -93,7 +93,7 @@ extent-some b bs = go (eqb b LF)
 -- ---- the line at a position
 
 module _ (text : List ℕ) (start : ℕ) where
-  pub step-lines : start < length text → lines (drop start text) ≡ line (drop start text) ∷ lines (drop (start + extent (drop start text)) text)
+  pub step-lines : start < length text → lines (drop start text) ≡ firstLine (drop start text) ∷ lines (drop (start + extent (drop start text)) text)
   step-lines h =
       rw (← drop-drop (extent (drop start text)) start text, drop-cons text start 0 h) (first-line (getD text start 0) (drop (suc start) text))
 
@@ -101,50 +101,50 @@ module _ (text : List ℕ) (start : ℕ) where
   extent-pos h = rw (drop-cons text start 0 h) (extent-some (getD text start 0) (drop (suc start) text))
 
   module _ {x : Line} (e : x ≡ lineAt text start) where
-    line-entry : {n c next : ℕ} → x ≡ EntryLine n c next → (entry (line (drop start text)) ≡ counted n c) × (next ≡ start + extent (drop start text))
-    line-entry {n} {c} {next} q = go (entry (line (drop start text))) (sym q ∙ e)
+    line-entry : {n c next : ℕ} → x ≡ EntryLine n c next → (countLine (firstLine (drop start text)) ≡ counted n c) × (next ≡ start + extent (drop start text))
+    line-entry {n} {c} {next} q = go (countLine (firstLine (drop start text))) (sym q ∙ e)
       where
-        go : (r : Entry) → EntryLine n c next ≡ lineOf r (start + extent (drop start text)) → (r ≡ counted n c) × (next ≡ start + extent (drop start text))
+        go : (r : CountLine) → EntryLine n c next ≡ lineOf r (start + extent (drop start text)) → (r ≡ counted n c) × (next ≡ start + extent (drop start text))
         go (counted a b) h = (cc, cc)
         go malformed h = (cc, cc)
 
-    line-malformed : x ≡ Malformed → entry (line (drop start text)) ≡ malformed
-    line-malformed q = go (entry (line (drop start text))) (sym q ∙ e)
+    line-malformed : x ≡ Malformed → countLine (firstLine (drop start text)) ≡ malformed
+    line-malformed q = go (countLine (firstLine (drop start text))) (sym q ∙ e)
       where
-        go : (r : Entry) → Malformed ≡ lineOf r (start + extent (drop start text)) → r ≡ malformed
+        go : (r : CountLine) → Malformed ≡ lineOf r (start + extent (drop start text)) → r ≡ malformed
         go (counted a b) h = cc
         go malformed h = refl
 
 -- a line's numbers are small
-entry-small : (l : List ℕ) {n c : ℕ} → entry l ≡ counted n c → (n ≤ largestLift) × (c ≤ largestCount)
-unfolding entry
-entry-small l {n} {c} e = go (isNumber largestLift (before l)) refl (isNumber largestCount (behind l)) refl e
+entry-small : (l : List ℕ) {n c : ℕ} → countLine l ≡ counted n c → (n ≤ largestLift) × (c ≤ largestCount)
+unfolding countLine
+entry-small l {n} {c} e = go (isNumber largestLift (beforeComma l)) refl (isNumber largestCount (behindComma l)) refl e
   where
     within : (limit : ℕ) (bs : List ℕ) → isNumber limit bs ≡ true → value bs ≤ limit
     within limit bs h = leb-true (value bs) limit (and-split (allDigits bs) _ (and-split (not (empty bs)) _ h .1) .1)
 
-    go : (a : Bool) → isNumber largestLift (before l) ≡ a → (b : Bool) → isNumber largestCount (behind l) ≡ b
-        → cond (a && b) (counted (value (before l)) (value (behind l))) malformed ≡ counted n c → (n ≤ largestLift) × (c ≤ largestCount)
+    go : (a : Bool) → isNumber largestLift (beforeComma l) ≡ a → (b : Bool) → isNumber largestCount (behindComma l) ≡ b
+        → cond (a && b) (counted (value (beforeComma l)) (value (behindComma l))) malformed ≡ counted n c → (n ≤ largestLift) × (c ≤ largestCount)
     go true h true k q =
-        let v : value (before l) ≡ n = cc in
-        let w : value (behind l) ≡ c = cc in
-        (omega (arith, within largestLift (before l) h), omega (arith, within largestCount (behind l) k))
+        let v : value (beforeComma l) ≡ n = cc in
+        let w : value (behindComma l) ≡ c = cc in
+        (omega (arith, within largestLift (beforeComma l) h), omega (arith, within largestCount (behindComma l) k))
     go true h false k q = let z : _≡_ {A = ℕ} 0 1 = cc in absurd (omega arith)
     go false h b k q = let z : _≡_ {A = ℕ} 0 1 = cc in absurd (omega arith)
 
-lift-small : (l : List ℕ) {n c : ℕ} → entry l ≡ counted n c → n < 2 ^ 32
+lift-small : (l : List ℕ) {n c : ℕ} → countLine l ≡ counted n c → n < 2 ^ 32
 lift-small l e = omega (arith, entry-small l e .0)
 
-pub count-small : (l : List ℕ) {n c : ℕ} → entry l ≡ counted n c → c ≤ largestCount
+pub count-small : (l : List ℕ) {n c : ℕ} → countLine l ≡ counted n c → c ≤ largestCount
 count-small l e = entry-small l e .1
 
 -- so is a lift's new measure
 pub measureFor-small : (xs : List (List ℕ)) (n : ℕ) {m : ℕ} → measureFor xs n ≡ some m → m ≤ largestSum
 unfolding measureFor
 measureFor-small [] n {m} q = let z : _≡_ {A = ℕ} 0 1 = cc in absurd (omega arith)
-measureFor-small (x ∷ xs) n {m} q = go (entry x) refl q (measureFor-small xs n)
+measureFor-small (x ∷ xs) n {m} q = go (countLine x) refl q (measureFor-small xs n)
   where
-    go : (e : Entry) → entry x ≡ e → measureBy e n (measureFor xs n) ≡ some m → (measureFor xs n ≡ some m → m ≤ largestSum) → m ≤ largestSum
+    go : (e : CountLine) → countLine x ≡ e → measureBy e n (measureFor xs n) ≡ some m → (measureFor xs n ≡ some m → m ≤ largestSum) → m ≤ largestSum
     go malformed h q r = r q
     go (counted l c) h q r = by (eqb l n) q
       where
@@ -162,7 +162,7 @@ slot-small xs n = go (measureFor xs n) refl
 
 -- ---- the loop
 
-pub record Kept (text ns measures : List ℕ) (start i : ℕ) : Type 0 where
+pub record LinesKept (text ns measures : List ℕ) (start i : ℕ) : Type 0 where
   pub done : List (List ℕ)
   pub had : List ℕ
   pub parted : done ++ lines (drop start text) ≡ lines text
@@ -178,19 +178,19 @@ unfolding measureFor
 slots-zero [] = refl
 slots-zero (n ∷ ns) = ap (λ vs. 0 ∷ vs) (slots-zero ns)
 
-pub kept-none : (text ns : List ℕ) {measures : List ℕ} → measures ≡ replicate (length ns) 0 → Kept text ns measures 0 0
+pub kept-none : (text ns : List ℕ) {measures : List ℕ} → measures ≡ replicate (length ns) 0 → LinesKept text ns measures 0 0
 unfolding among measureFor
 kept-none text ns e =
     record { done = []; had = []; parted = refl; same = refl; many = refl; heard = λ n. refl; filled = e ∙ sym (slots-zero ns); few = omega arith }
 
-module _ {text ns measures : List ℕ} {start i : ℕ} (d : Kept text ns measures start i) where
+module _ {text ns measures : List ℕ} {start i : ℕ} (d : LinesKept text ns measures start i) where
   pub kept-length : length measures ≡ length ns
   kept-length = rw (d .filled) (length-map ns (slot (d .done)))
 
   pub kept-same : {measures₀ : List ℕ} → measures₀ ≡ replicate (length ns) 0 → length measures ≡ length measures₀
   kept-same e = kept-length ∙ sym (ap length e ∙ length-replicate (length ns) 0)
 
-  pub kept-end : length text ≤ start → Tells ns (lines text) (All i) measures
+  pub kept-end : length text ≤ start → LinesAnswered ns (lines text) (All i) measures
   unfolding linesFrom lines
   kept-end h =
       let z : lines (drop start text) ≡ [] = rw (drop-of-length-le text h) in
@@ -198,7 +198,7 @@ module _ {text ns measures : List ℕ} {start i : ℕ} (d : Kept text ns measure
       record { sound = sym (d .same) ∙ rw z; many = d .many ∙ ap length w; filled = d .filled ∙ ap (slots ns) w }
 
   module _ (h : start < length text) {x : Line} (e : x ≡ lineAt text start) where
-    pub kept-malformed : x ≡ Malformed → Tells ns (lines text) (Faulty (Form (i + 1))) measures
+    pub kept-malformed : x ≡ Malformed → LinesAnswered ns (lines text) (Faulty (Form (i + 1))) measures
     unfolding linesFrom
     kept-malformed q = sym (d .same) ∙ rw (step-lines text start h, line-malformed text start e q)
 
@@ -213,16 +213,16 @@ module _ {text ns measures : List ℕ} {start i : ℕ} (d : Kept text ns measure
           rw z (sym (rw (step-lines text start h, p)) ∙ d .same)
 
       pub kept-small : c ≤ largestCount
-      kept-small = count-small (line (drop start text)) (line-entry text start e q .0)
+      kept-small = count-small (firstLine (drop start text)) (line-entry text start e q .0)
 
       pub kept-lift : n < 2 ^ 32
-      kept-lift = lift-small (line (drop start text)) (line-entry text start e q .0)
+      kept-lift = lift-small (firstLine (drop start text)) (line-entry text start e q .0)
 
       pub kept-less : start < next
       kept-less = omega (arith, line-entry text start e q .1, extent-pos text start h)
 
       module _ {y : Found} (f : Located ns n y) where
-        pub kept-absent : y ≡ Nothing → Tells ns (lines text) (Faulty (AboutLift (i + 1))) measures
+        pub kept-absent : y ≡ Nothing → LinesAnswered ns (lines text) (Faulty (AboutLift (i + 1))) measures
         kept-absent g = let a : among n ns ≡ false = rw g at f in sym (rw a at turned)
 
         module _ {k : ℕ} (g : y ≡ At k) where
@@ -232,12 +232,12 @@ module _ {text ns measures : List ℕ} {start i : ℕ} (d : Kept text ns measure
           value-at : getD measures k 0 ≡ slot (d .done) n
           value-at = let p = kept-place in rw (d .filled, slot-at (d .done) ns k (p .0), p .1)
 
-          pub kept-had : (getD measures k 0 ≡ 0 → ⊥) → Tells ns (lines text) (Faulty (AboutLift (i + 1))) measures
+          pub kept-had : (getD measures k 0 ≡ 0 → ⊥) → LinesAnswered ns (lines text) (Faulty (AboutLift (i + 1))) measures
           kept-had o =
               let a : among n (d .had) ≡ true = d .heard n ∙ ap not (ne-eqb (slot (d .done) n) 0 (λ z. o (value-at ∙ z))) in
               sym (rw (a, and-false (among n ns)) at turned)
 
-          pub kept-turn : Numbers ns → getD measures k 0 ≡ 0 → {m : ℕ} {measures′ : List ℕ} → m ≡ hundreds c → measures′ ≡ set measures k (m + 1) → Kept text ns measures′ next (i + 1)
+          pub kept-turn : LiftNumbers ns → getD measures k 0 ≡ 0 → {m : ℕ} {measures′ : List ℕ} → m ≡ hundreds c → measures′ ≡ set measures k (m + 1) → LinesKept text ns measures′ next (i + 1)
           kept-turn r o {m} {measures′} u v =
               let p = kept-place in
               let l = line-entry text start e q in
@@ -246,11 +246,11 @@ module _ {text ns measures : List ℕ} {start i : ℕ} (d : Kept text ns measure
               let a : among n (d .had) ≡ false = d .heard n ∙ ap not (eq-eqb (slot (d .done) n) 0 s) in
               let b : among n ns ≡ true = present n ns k (p .0) (p .1) in
               record {
-                done = d .done ++ (line (drop start text) ∷ []);
+                done = d .done ++ (firstLine (drop start text) ∷ []);
                 had = n ∷ d .had;
-                parted = append-assoc (d .done) (line (drop start text) ∷ []) _ ∙ rw w (rw (step-lines text start h) at (d .parted));
+                parted = append-assoc (d .done) (firstLine (drop start text) ∷ []) _ ∙ rw w (rw (step-lines text start h) at (d .parted));
                 same = rw (b, a) at turned;
-                many = omega (arith, d .many, length-append (d .done) (line (drop start text) ∷ []));
+                many = omega (arith, d .many, length-append (d .done) (firstLine (drop start text) ∷ []));
                 heard = heard-turn (d .done) _ (l .0) (d .had) s (d .heard);
                 filled = rw (v, u, d .filled) (set-slot (d .done) _ (l .0) s 0 ns (r .rising) k (p .0) (p .1));
                 few = omega (arith, d .few, kept-less);

@@ -13,13 +13,13 @@ use Rattle.sheet.specs.Sheet.{notCounted, Lift, lifts}
 use Rattle.reply.specs.Reply.{numbered}
 use Rattle.sheet.specs.Reading.{Reading, faulty, sound, ofWords}
 use Rattle.sheet.specs.Lift.{placeAt, New}
-use Rattle.sheet.specs.Law.{Listed, Writable, AllWritable}
+use Rattle.sheet.specs.Law.{AllWellFormed, Writable, AllWritable}
 use Rattle.sheet.proofs.Trips.{placed-writable, read-theorem, back-theorem}
 use Rattle.sheet.proofs.Legibility.{legible-words}
 use Rattle.tally.proofs.Verdicts.{decided, read-through}
-use Rattle.counts.specs.Text.{lines, Entry, counted, malformed, entry}
+use Rattle.counts.specs.Text.{lines, CountLine, counted, malformed, countLine}
 use Rattle.probability.specs.Among.{among}
-use Rattle.counts.specs.Counts.{atLine, linesFrom, numbersOf, ofLines, hundreds, remeasured, measureFor, measuredBy, measured, renewed, answer}
+use Rattle.counts.specs.Counts.{atLine, linesFrom, numbersOf, ofLines, hundreds, remeasured, measureFor, measuredBy, measured, renewed, countsVerdict}
 use Rattle.counts.specs.Law.{TakenLine, Takes}
 use Rattle.counts.proofs.Slots.{count-small, measureFor-small}
 
@@ -29,15 +29,15 @@ use Rattle.counts.proofs.Slots.{count-small, measureFor-small}
 record Entered (x : List ℕ) (ns had : List ℕ) (rest : ℕ → Reading) : Type 0 where
   lift : ℕ
   count : ℕ
-  says : entry x ≡ counted lift count
+  says : countLine x ≡ counted lift count
   there : among lift ns ≡ true
   new : among lift had ≡ false
   onward : rest lift ≡ sound
 
-entered : (x : List ℕ) (i : ℕ) (ns had : List ℕ) (rest : ℕ → Reading) → atLine (entry x) i ns had rest ≡ sound → Entered x ns had rest
-entered x i ns had rest h = go (entry x) refl h
+entered : (x : List ℕ) (i : ℕ) (ns had : List ℕ) (rest : ℕ → Reading) → atLine (countLine x) i ns had rest ≡ sound → Entered x ns had rest
+entered x i ns had rest h = go (countLine x) refl h
   where
-    go : (e : Entry) → entry x ≡ e → atLine e i ns had rest ≡ sound → Entered x ns had rest
+    go : (e : CountLine) → countLine x ≡ e → atLine e i ns had rest ≡ sound → Entered x ns had rest
     go malformed q h = let z : _≡_ {A = ℕ} 0 1 = cc in absurd (omega arith)
     go (counted n c) q h = by (among n ns) refl (among n had) refl h
       where
@@ -47,7 +47,7 @@ entered x i ns had rest h = go (entry x) refl h
         by false u b v h = let z : _≡_ {A = ℕ} 0 1 = cc in absurd (omega arith)
 
 -- a lift counts with the count of a line
-counts-line : (x : List ℕ) {n c : ℕ} → entry x ≡ counted n c → (l : Lift) → placeAt New (remeasured l (hundreds c)) .measure ≡ hundreds c
+counts-line : (x : List ℕ) {n c : ℕ} → countLine x ≡ counted n c → (l : Lift) → placeAt New (remeasured l (hundreds c)) .measure ≡ hundreds c
 counts-line x {n} {c} e l = rw (ne-eqb (hundreds c) notCounted (omega (arith, count-small x e)))
 
 -- each line of lines that are all taken, and that its lift had none before
@@ -109,8 +109,8 @@ measured-writable xs l w = go (measureFor xs (l .number)) refl
     go (some m) e =
         record { number = w .number; old = w .old; new = record { round = w .new .round; measure = omega (arith, measureFor-small xs (l .number) e) } }
 
-all-writable : (xs : List (List ℕ)) (n : ℕ) (ls : List Lift) → Listed n ls → AllWritable (map (measured xs) ls)
-unfolding Listed AllWritable
+all-writable : (xs : List (List ℕ)) (n : ℕ) (ls : List Lift) → AllWellFormed n ls → AllWritable (map (measured xs) ls)
+unfolding AllWellFormed AllWritable
 all-writable xs n [] h = tt
 all-writable xs n (l ∷ ls) (p, q) =
     (measured-writable xs l (record { number = p .payload; old = placed-writable (p .old); new = placed-writable (p .new) }), all-writable xs (l .number) ls q)
@@ -118,11 +118,11 @@ all-writable xs n (l ∷ ls) (p, q) =
 -- ---- the theorem
 
 pub takes : (sheet text : List ℕ) → Takes sheet text
-unfolding answer
+unfolding countsVerdict
 takes sheet text a b h =
     let w = read-through (ofWords sheet) _ h in
     let v = read-through (ofLines (lifts sheet) (lines text)) _ (w .1) in
-    let t = read-theorem sheet (legible-words (w .0) .read) .listable in
+    let t = read-theorem sheet (legible-words (w .0) .read) .wellFormed in
     record {
       fits = decided (renewed sheet text) .only a b (v .1) .0;
       back = back-theorem (map (measured (lines text)) (lifts sheet)) (all-writable (lines text) 0 (lifts sheet) (t .listed)) (rw (length-map (lifts sheet) (measured (lines text))) (omega (arith, t .few)));

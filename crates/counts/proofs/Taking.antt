@@ -9,7 +9,7 @@ use Rattle.reply.specs.Reply.{Reply, replied, ofRefusal}
 use Rattle.sheet.specs.Reading.{faulty, ofWords, Legible, readingOf}
 use Rattle.tally.specs.Verdict.{refused, fits, unlessFaulty, verdict, verdictOf as saidOf, ofVerdict}
 use Rattle.reply.specs.Refusal.{refusalOf}
-use Rattle.sheet.specs.Law.{Listed}
+use Rattle.sheet.specs.Law.{AllWellFormed}
 use Rattle.sheet.proofs.Trips.{read-theorem}
 use Rattle.sheet.proofs.Legibility.{legible-words, words-legible}
 use Rattle.sheet.specs.declared.Sheet.{Sheet}
@@ -19,8 +19,8 @@ use Rattle.tally.specs.declared.Checked.the-variants.{Refused, Fits}
 use Rattle.sheet.specs.declared.Judged.{Judged}
 use Rattle.sheet.specs.declared.Judged.the-variants.{Faulty, Sound}
 use Rattle.counts.specs.Text.{lines}
-use Rattle.counts.specs.Counts.{numbersOf, ofLines, renewed, answer, outputOf, reply, output}
-use Rattle.counts.specs.Scan.{RisingAbove, Numbers, slot, slots, AllTaken, Tells, liftsWith, sheetWith}
+use Rattle.counts.specs.Counts.{numbersOf, ofLines, renewed, countsVerdict, outputOf, countsReply, countsOutput}
+use Rattle.counts.specs.Scan.{RisingAbove, LiftNumbers, slot, slots, AllTaken, LinesAnswered, liftsWith, sheetWith}
 use Rattle.counts.specs.declared.lines.Lines.{Lines}
 use Rattle.counts.specs.declared.lines.Lines.the-variants.{Faulty as FaultyLine, All}
 use Rattle.counts.proofs.Slots.{slot-small, lifts-slots}
@@ -34,23 +34,23 @@ zeros (suc m) (suc n) h = ap (λ vs. 0 ∷ vs) (zeros m n (omega arith))
 -- ---- the lifts of a legible sheet
 
 pub few : {ws : List ℕ} {n : ℕ} → Legible ws → n ≡ length (lifts ws) → n ≤ 4096
-few {ws} l e = omega (arith, read-theorem ws (l .read) .listable .few)
+few {ws} l e = omega (arith, read-theorem ws (l .read) .wellFormed .few)
 
-listed-rising : (n : ℕ) (ls : List Lift) → Listed n ls → RisingAbove n (numbersOf ls)
-unfolding Listed RisingAbove
-listed-rising n [] h = tt
-listed-rising n (l ∷ ls) h = (h .0 .rises, listed-rising (l .number) ls (h .1))
+numbers-rising : (n : ℕ) (ls : List Lift) → AllWellFormed n ls → RisingAbove n (numbersOf ls)
+unfolding AllWellFormed RisingAbove
+numbers-rising n [] h = tt
+numbers-rising n (l ∷ ls) h = (h .0 .rises, numbers-rising (l .number) ls (h .1))
 
-listed-small : (n : ℕ) (ls : List Lift) → Listed n ls → (k : ℕ) → getD (numbersOf ls) k 0 < 2 ^ 32
-unfolding Listed
-listed-small n [] h k = omega arith
-listed-small n (l ∷ ls) h zero = omega (arith, h .0 .payload)
-listed-small n (l ∷ ls) h (suc k) = listed-small (l .number) ls (h .1) k
+numbers-small : (n : ℕ) (ls : List Lift) → AllWellFormed n ls → (k : ℕ) → getD (numbersOf ls) k 0 < 2 ^ 32
+unfolding AllWellFormed
+numbers-small n [] h k = omega arith
+numbers-small n (l ∷ ls) h zero = omega (arith, h .0 .payload)
+numbers-small n (l ∷ ls) h (suc k) = numbers-small (l .number) ls (h .1) k
 
-pub numbers : {ws : List ℕ} → Legible ws → Numbers (numbersOf (lifts ws))
+pub numbers : {ws : List ℕ} → Legible ws → LiftNumbers (numbersOf (lifts ws))
 numbers {ws} l =
-    let t = read-theorem ws (l .read) .listable in
-    record { rising = listed-rising 0 (lifts ws) (t .listed); few = rw (length-map (lifts ws) (λ l. l .number)) (t .few); small = listed-small 0 (lifts ws) (t .listed) }
+    let t = read-theorem ws (l .read) .wellFormed in
+    record { rising = numbers-rising 0 (lifts ws) (t .listed); few = rw (length-map (lifts ws) (λ l. l .number)) (t .few); small = numbers-small 0 (lifts ws) (t .listed) }
 
 -- ---- the result
 
@@ -64,12 +64,12 @@ module _ (n : ℕ) (old ws : List ℕ) {r : Checked} (h : saidOf r ≡ verdict w
 -- ---- the lines
 
 -- the answer behind a legible sheet's words
-behind-words : (ws text : List ℕ) → Legible ws → unlessFaulty (ofLines (lifts ws) (lines text)) (verdict (renewed ws text)) ≡ answer ws text
-unfolding answer
+behind-words : (ws text : List ℕ) → Legible ws → unlessFaulty (ofLines (lifts ws) (lines text)) (verdict (renewed ws text)) ≡ countsVerdict ws text
+unfolding countsVerdict
 behind-words ws text l = ap (λ r. unlessFaulty r (unlessFaulty (ofLines (lifts ws) (lines text)) (verdict (renewed ws text)))) (words-legible l)
 
-module _ (ws text ns measures : List ℕ) (l : Legible ws) {r : Lines} (e : ns ≡ numbersOf (lifts ws)) (g : Tells ns (lines text) r measures) where
-  pub at-line : {x : Refusal} → r ≡ FaultyLine x → (ofRefusal (refusalOf x) ≡ reply ws text) × (ws ≡ output ws text)
+module _ (ws text ns measures : List ℕ) (l : Legible ws) {r : Lines} (e : ns ≡ numbersOf (lifts ws)) (g : LinesAnswered ns (lines text) r measures) where
+  pub at-line : {x : Refusal} → r ≡ FaultyLine x → (ofRefusal (refusalOf x) ≡ countsReply ws text) × (ws ≡ countsOutput ws text)
   at-line {x} q = let t = rw (q, e) at g in let w = rw t at (behind-words ws text l) in (rw (← w), rw (← w))
 
   module _ {n : ℕ} (q : r ≡ All n) where
@@ -79,11 +79,11 @@ module _ (ws text ns measures : List ℕ) (l : Legible ws) {r : Lines} (e : ns �
     sheet-with : sheetWith ws measures ≡ renewed ws text
     sheet-with = ap sheetOf (ap (liftsWith (lifts ws)) (all-taken .filled ∙ ap (λ m. slots m (lines text)) e) ∙ lifts-slots (lines text) (lifts ws))
 
-    answered : verdict (sheetWith ws measures) ≡ answer ws text
+    answered : verdict (sheetWith ws measures) ≡ countsVerdict ws text
     answered = ap verdict sheet-with ∙ (rw (rw e at (all-taken .sound)) at (behind-words ws text l))
 
     pub at-end : {y : Reply} {out : List ℕ} → (y ≡ ofVerdict (verdict (sheetWith ws measures)) (λ _. replied n 0)) × (out ≡ outputOf ws (sheetWith ws measures) (verdict (sheetWith ws measures)))
-        → (y ≡ reply ws text) × (out ≡ output ws text)
+        → (y ≡ countsReply ws text) × (out ≡ countsOutput ws text)
     at-end (a, b) = (a ∙ ap₂ (λ k v. ofVerdict v (λ _. replied k 0)) (all-taken .many) answered, b ∙ ap₂ (outputOf ws) sheet-with answered)
 
     pub end-long : length measures ≡ length (lifts ws)
@@ -100,8 +100,8 @@ module _ (ws text ns measures : List ℕ) (l : Legible ws) {r : Lines} (e : ns �
 -- ---- the sheet lent
 
 module _ (ws text : List ℕ) {r : Judged} (h : readingOf r ≡ ofWords ws) where
-  pub at-word : {x : Refusal} → r ≡ Faulty x → (ofRefusal (refusalOf x) ≡ reply ws text) × (ws ≡ output ws text)
-  unfolding answer
+  pub at-word : {x : Refusal} → r ≡ Faulty x → (ofRefusal (refusalOf x) ≡ countsReply ws text) × (ws ≡ countsOutput ws text)
+  unfolding countsVerdict
   at-word {x} e = let v : faulty (refusalOf x) ≡ ofWords ws = sym (ap readingOf e) ∙ h in (rw (← v), rw (← v))
 
   pub at-legible : r ≡ Sound → Legible ws

@@ -13,8 +13,8 @@ use lib.Seq.{drop-cons, drop-drop, getD-drop}
 use borrow.Author.Tests.{eq-eqb, ne-eqb, not-true}
 use Rattle.tally.specs.declared.Found.{Found}
 use Rattle.tally.specs.declared.Found.the-variants.{At, Nothing}
-use Rattle.counts.specs.Text.{LF, CR, comma, ahead, endingCR, lines, before, behind, isDigit, allDigits, value, empty, isNumber, largestLift, largestCount, counted, malformed, entry}
-use Rattle.counts.specs.Scan.{span, leading, numberAt, line, extent, endingAt, lineAt}
+use Rattle.counts.specs.Text.{LF, CR, comma, ahead, endingCR, lines, beforeComma, behindComma, isDigit, allDigits, value, empty, isNumber, largestLift, largestCount, counted, malformed, countLine}
+use Rattle.counts.specs.Scan.{span, leading, numberAt, firstLine, extent, endingAt, lineAt}
 use Rattle.counts.specs.declared.text.Number.{Number}
 use Rattle.counts.specs.declared.text.Number.the-variants.{Is, Not}
 use Rattle.counts.specs.declared.text.Line.the-variants.{Entry as EntryLine, Malformed}
@@ -22,12 +22,12 @@ use Rattle.counts.proofs.Numbers.{digit-low}
 
 -- ---- the first line of a text
 
-line-none : line [] ≡ []
-unfolding line lines
+line-none : firstLine [] ≡ []
+unfolding firstLine lines
 line-none = refl
 
-line-next : (b : ℕ) (bs : List ℕ) → line (b ∷ bs) ≡ cond (eqb b LF) [] (cond (endingCR b bs) (line bs) (b ∷ line bs))
-unfolding line lines
+line-next : (b : ℕ) (bs : List ℕ) → firstLine (b ∷ bs) ≡ cond (eqb b LF) [] (cond (endingCR b bs) (firstLine bs) (b ∷ firstLine bs))
+unfolding firstLine lines
 line-next b bs = go (eqb b LF) (endingCR b bs) (lines bs)
   where
     go : (t u : Bool) (ls : List (List ℕ)) → getD (cond t ([] ∷ ls) (cond u ls (ahead b ls))) 0 [] ≡ cond t [] (cond u (getD ls 0 []) (b ∷ getD ls 0 []))
@@ -37,7 +37,7 @@ line-next b bs = go (eqb b LF) (endingCR b bs) (lines bs)
     go false false (l ∷ ls) = refl
 
 -- bytes that begin with LF are an empty line
-line-LF : (bs : List ℕ) → eqb (getD bs 0 0) LF ≡ true → line bs ≡ []
+line-LF : (bs : List ℕ) → eqb (getD bs 0 0) LF ≡ true → firstLine bs ≡ []
 line-LF [] h = line-none
 line-LF (b ∷ bs) h = rw (line-next b bs, h)
 
@@ -49,7 +49,7 @@ endingCR-LF b bs h = go (eqb b CR) h
     go false e = absurd (false≢true e)
 
 -- a text with a byte is its first line and the lines behind that
-pub first-line : (b : ℕ) (bs : List ℕ) → lines (b ∷ bs) ≡ line (b ∷ bs) ∷ lines (drop (extent (b ∷ bs)) (b ∷ bs))
+pub first-line : (b : ℕ) (bs : List ℕ) → lines (b ∷ bs) ≡ firstLine (b ∷ bs) ∷ lines (drop (extent (b ∷ bs)) (b ∷ bs))
 unfolding lines extent
 first-line b [] = rw (line-next b [], line-none) (go (eqb b LF) (endingCR b []) refl)
   where
@@ -59,9 +59,9 @@ first-line b [] = rw (line-next b [], line-none) (go (eqb b LF) (endingCR b []) 
     go false false e = refl
 first-line b (c ∷ cs) = rw (line-next b (c ∷ cs)) (go (eqb b LF) (endingCR b (c ∷ cs)) (first-line c cs))
   where
-    go : (t u : Bool) → lines (c ∷ cs) ≡ line (c ∷ cs) ∷ lines (drop (extent (c ∷ cs)) (c ∷ cs))
+    go : (t u : Bool) → lines (c ∷ cs) ≡ firstLine (c ∷ cs) ∷ lines (drop (extent (c ∷ cs)) (c ∷ cs))
         → cond t ([] ∷ lines (c ∷ cs)) (cond u (lines (c ∷ cs)) (ahead b (lines (c ∷ cs))))
-        ≡ cond t [] (cond u (line (c ∷ cs)) (b ∷ line (c ∷ cs))) ∷ lines (drop (cond t 1 (suc (extent (c ∷ cs)))) (b ∷ c ∷ cs))
+        ≡ cond t [] (cond u (firstLine (c ∷ cs)) (b ∷ firstLine (c ∷ cs))) ∷ lines (drop (cond t 1 (suc (extent (c ∷ cs)))) (b ∷ c ∷ cs))
     go true u h = refl
     go false true h = h
     go false false h = ap (ahead b) h
@@ -82,30 +82,30 @@ span-foreign (b ∷ bs) = go (isDigit b) refl (span-foreign bs)
     go false e h = rw e
 
 -- the first byte of a line is that of the text, or the line is empty
-line-head : (bs : List ℕ) → (line bs ≡ []) ⊎ (getD (line bs) 0 0 ≡ getD bs 0 0)
+line-head : (bs : List ℕ) → (firstLine bs ≡ []) ⊎ (getD (firstLine bs) 0 0 ≡ getD bs 0 0)
 line-head [] = inl line-none
 line-head (b ∷ bs) = rw (line-next b bs) (go (eqb b LF) (endingCR b bs) refl)
   where
-    go : (t u : Bool) → endingCR b bs ≡ u → (cond t [] (cond u (line bs) (b ∷ line bs)) ≡ []) ⊎ (getD (cond t [] (cond u (line bs) (b ∷ line bs))) 0 0 ≡ b)
+    go : (t u : Bool) → endingCR b bs ≡ u → (cond t [] (cond u (firstLine bs) (b ∷ firstLine bs)) ≡ []) ⊎ (getD (cond t [] (cond u (firstLine bs) (b ∷ firstLine bs))) 0 0 ≡ b)
     go true u e = inl refl
     go false true e = inl (line-LF bs (endingCR-LF b bs e))
     go false false e = inr refl
 
-line-foreign : (bs : List ℕ) → foreign bs ≡ true → foreign (line bs) ≡ true
+line-foreign : (bs : List ℕ) → foreign bs ≡ true → foreign (firstLine bs) ≡ true
 line-foreign [] h = rw line-none
 line-foreign (b ∷ bs) h = rw (line-next b bs) (go (eqb b LF) (endingCR b bs) refl)
   where
-    go : (t u : Bool) → endingCR b bs ≡ u → foreign (cond t [] (cond u (line bs) (b ∷ line bs))) ≡ true
+    go : (t u : Bool) → endingCR b bs ≡ u → foreign (cond t [] (cond u (firstLine bs) (b ∷ firstLine bs))) ≡ true
     go true u e = refl
     go false true e = rw (line-LF bs (endingCR-LF b bs e))
     go false false e = h
 
-before-foreign : (l : List ℕ) → foreign l ≡ true → foreign (before l) ≡ true
-unfolding before
+before-foreign : (l : List ℕ) → foreign l ≡ true → foreign (beforeComma l) ≡ true
+unfolding beforeComma
 before-foreign [] h = refl
 before-foreign (b ∷ bs) h = go (eqb b comma)
   where
-    go : (t : Bool) → foreign (cond t [] (b ∷ before bs)) ≡ true
+    go : (t : Bool) → foreign (cond t [] (b ∷ beforeComma bs)) ≡ true
     go true = refl
     go false = h
 
@@ -131,13 +131,13 @@ module _ (b : ℕ) (d : isDigit b ≡ true) where
   not-comma : eqb b comma ≡ false
   not-comma = ne-eqb b comma (λ e. omega (arith, digit-low b d))
 
-line-leading : (bs : List ℕ) → line bs ≡ leading bs ++ line (drop (span bs) bs)
+line-leading : (bs : List ℕ) → firstLine bs ≡ leading bs ++ firstLine (drop (span bs) bs)
 unfolding span
 line-leading [] = refl
 line-leading (b ∷ bs) = go (isDigit b) refl (line-leading bs)
   where
-    go : (t : Bool) → isDigit b ≡ t → line bs ≡ leading bs ++ line (drop (span bs) bs)
-        → line (b ∷ bs) ≡ take (cond t (suc (span bs)) 0) (b ∷ bs) ++ line (drop (cond t (suc (span bs)) 0) (b ∷ bs))
+    go : (t : Bool) → isDigit b ≡ t → firstLine bs ≡ leading bs ++ firstLine (drop (span bs) bs)
+        → firstLine (b ∷ bs) ≡ take (cond t (suc (span bs)) 0) (b ∷ bs) ++ firstLine (drop (cond t (suc (span bs)) 0) (b ∷ bs))
     go true e h = rw (line-next b bs, not-LF b e, not-CR b e) (ap (λ l. b ∷ l) h)
     go false e h = refl
 
@@ -151,55 +151,55 @@ extent-leading (b ∷ bs) = go (isDigit b) refl (extent-leading bs)
     go true e h = rw (not-LF b e) (omega arith)
     go false e h = omega arith
 
-before-leading : (bs l : List ℕ) → before (leading bs ++ l) ≡ leading bs ++ before l
-unfolding before span
+before-leading : (bs l : List ℕ) → beforeComma (leading bs ++ l) ≡ leading bs ++ beforeComma l
+unfolding beforeComma span
 before-leading [] l = refl
 before-leading (b ∷ bs) l = go (isDigit b) refl (before-leading bs l)
   where
-    go : (t : Bool) → isDigit b ≡ t → before (leading bs ++ l) ≡ leading bs ++ before l
-        → before (take (cond t (suc (span bs)) 0) (b ∷ bs) ++ l) ≡ take (cond t (suc (span bs)) 0) (b ∷ bs) ++ before l
+    go : (t : Bool) → isDigit b ≡ t → beforeComma (leading bs ++ l) ≡ leading bs ++ beforeComma l
+        → beforeComma (take (cond t (suc (span bs)) 0) (b ∷ bs) ++ l) ≡ take (cond t (suc (span bs)) 0) (b ∷ bs) ++ beforeComma l
     go true e h = rw (not-comma b e) (ap (λ l. b ∷ l) h)
     go false e h = refl
 
-behind-leading : (bs l : List ℕ) → behind (leading bs ++ l) ≡ behind l
-unfolding behind span
+behind-leading : (bs l : List ℕ) → behindComma (leading bs ++ l) ≡ behindComma l
+unfolding behindComma span
 behind-leading [] l = refl
 behind-leading (b ∷ bs) l = go (isDigit b) refl (behind-leading bs l)
   where
-    go : (t : Bool) → isDigit b ≡ t → behind (leading bs ++ l) ≡ behind l → behind (take (cond t (suc (span bs)) 0) (b ∷ bs) ++ l) ≡ behind l
+    go : (t : Bool) → isDigit b ≡ t → behindComma (leading bs ++ l) ≡ behindComma l → behindComma (take (cond t (suc (span bs)) 0) (b ∷ bs) ++ l) ≡ behindComma l
     go true e h = rw (not-comma b e) h
     go false e h = refl
 
 -- ---- the two fields of a line
 
 module _ (bs : List ℕ) where
-  lift-field : isNumber largestLift (before (line bs)) ≡ cond (empty (before (line (drop (span bs) bs)))) (isNumber largestLift (leading bs)) false
+  lift-field : isNumber largestLift (beforeComma (firstLine bs)) ≡ cond (empty (beforeComma (firstLine (drop (span bs) bs)))) (isNumber largestLift (leading bs)) false
   lift-field =
-      rw (line-leading bs, before-leading bs (line (drop (span bs) bs)))
-      (number-foreign largestLift (leading bs) (before (line (drop (span bs) bs))) (before-foreign _ (line-foreign _ (span-foreign bs))))
+      rw (line-leading bs, before-leading bs (firstLine (drop (span bs) bs)))
+      (number-foreign largestLift (leading bs) (beforeComma (firstLine (drop (span bs) bs))) (before-foreign _ (line-foreign _ (span-foreign bs))))
 
-  count-field : behind (line bs) ≡ behind (line (drop (span bs) bs))
-  count-field = rw (line-leading bs) (behind-leading bs (line (drop (span bs) bs)))
+  count-field : behindComma (firstLine bs) ≡ behindComma (firstLine (drop (span bs) bs))
+  count-field = rw (line-leading bs) (behind-leading bs (firstLine (drop (span bs) bs)))
 
-  count-number : isNumber largestCount (line bs) ≡ cond (empty (line (drop (span bs) bs))) (isNumber largestCount (leading bs)) false
-  count-number = rw (line-leading bs) (number-foreign largestCount (leading bs) (line (drop (span bs) bs)) (line-foreign _ (span-foreign bs)))
+  count-number : isNumber largestCount (firstLine bs) ≡ cond (empty (firstLine (drop (span bs) bs))) (isNumber largestCount (leading bs)) false
+  count-number = rw (line-leading bs) (number-foreign largestCount (leading bs) (firstLine (drop (span bs) bs)) (line-foreign _ (span-foreign bs)))
 
 -- a line with a faulty field
-no-lift : (l : List ℕ) → isNumber largestLift (before l) ≡ false → entry l ≡ malformed
-unfolding entry
+no-lift : (l : List ℕ) → isNumber largestLift (beforeComma l) ≡ false → countLine l ≡ malformed
+unfolding countLine
 no-lift l h = rw h
 
-no-count : (l : List ℕ) → isNumber largestCount (behind l) ≡ false → entry l ≡ malformed
-unfolding entry
-no-count l h = rw (h, and-false (isNumber largestLift (before l)))
+no-count : (l : List ℕ) → isNumber largestCount (behindComma l) ≡ false → countLine l ≡ malformed
+unfolding countLine
+no-count l h = rw (h, and-false (isNumber largestLift (beforeComma l)))
 
 cond-false : (t : Bool) → cond t false false ≡ false
 cond-false true = refl
 cond-false false = refl
 
 -- behind the digits no comma
-no-comma : (l : List ℕ) → (getD l 0 0 ≡ comma → ⊥) → (empty (before l) ≡ false) ⊎ (behind l ≡ [])
-unfolding before behind
+no-comma : (l : List ℕ) → (getD l 0 0 ≡ comma → ⊥) → (empty (beforeComma l) ≡ false) ⊎ (behindComma l ≡ [])
+unfolding beforeComma behindComma
 no-comma [] h = inr refl
 no-comma (b ∷ bs) h = inl (rw (ne-eqb b comma h))
 
@@ -208,8 +208,8 @@ unfolding extent
 comma-extent bs = refl
 
 -- a line whose two fields are these numbers
-whole : (l : List ℕ) {a b : List ℕ} → before l ≡ a → behind l ≡ b → isNumber largestLift a ≡ true → isNumber largestCount b ≡ true → entry l ≡ counted (value a) (value b)
-unfolding entry
+whole : (l : List ℕ) {a b : List ℕ} → beforeComma l ≡ a → behindComma l ≡ b → isNumber largestLift a ≡ true → isNumber largestCount b ≡ true → countLine l ≡ counted (value a) (value b)
+unfolding countLine
 whole l {a} {b} p q h k = rw (p, q, h, k)
 
 -- ---- the answers taken apart
@@ -231,15 +231,15 @@ module _ (limit : ℕ) (text : List ℕ) (start : ℕ) where
       go false v n h = refl
 
 module _ (text : List ℕ) (start : ℕ) where
-  ending-at : {a : ℕ} {x : Found} → x ≡ endingAt text start → x ≡ At a → (empty (line (drop start text)) ≡ true) × (a ≡ start + extent (drop start text))
-  ending-at {a} {x} h e = go (empty (line (drop start text))) (start + extent (drop start text)) h
+  ending-at : {a : ℕ} {x : Found} → x ≡ endingAt text start → x ≡ At a → (empty (firstLine (drop start text)) ≡ true) × (a ≡ start + extent (drop start text))
+  ending-at {a} {x} h e = go (empty (firstLine (drop start text))) (start + extent (drop start text)) h
     where
       go : (t : Bool) (n : ℕ) → x ≡ cond t (At n) Nothing → (t ≡ true) × (a ≡ n)
       go true n h = (refl, cc)
       go false n h = (cc, cc)
 
-  ending-none : {x : Found} → x ≡ endingAt text start → x ≡ Nothing → empty (line (drop start text)) ≡ false
-  ending-none {x} h e = go (empty (line (drop start text))) (start + extent (drop start text)) h
+  ending-none : {x : Found} → x ≡ endingAt text start → x ≡ Nothing → empty (firstLine (drop start text)) ≡ false
+  ending-none {x} h e = go (empty (firstLine (drop start text))) (start + extent (drop start text)) h
     where
       go : (t : Bool) (n : ℕ) → x ≡ cond t (At n) Nothing → t ≡ false
       go true n h = cc
@@ -247,7 +247,7 @@ module _ (text : List ℕ) (start : ℕ) where
 
 -- ---- the ways out of a line
 
-said : (text : List ℕ) (start : ℕ) → entry (line (drop start text)) ≡ malformed → Malformed ≡ lineAt text start
+said : (text : List ℕ) (start : ℕ) → countLine (firstLine (drop start text)) ≡ malformed → Malformed ≡ lineAt text start
 said text start e = rw e
 
 -- a text from behind its first digits
@@ -265,25 +265,25 @@ module _ (text : List ℕ) (start : ℕ) {x : Number} (h : x ≡ numberAt larges
   pub line-no-lift : x ≡ Not → Malformed ≡ lineAt text start
   line-no-lift e =
       let bs = drop start text in
-      said text start (no-lift (line bs) (lift-field bs ∙ rw (number-not largestLift text start h e) (cond-false (empty (before (line (drop (span bs) bs)))))))
+      said text start (no-lift (firstLine bs) (lift-field bs ∙ rw (number-not largestLift text start h e) (cond-false (empty (beforeComma (firstLine (drop (span bs) bs)))))))
 
   module _ {lift at′ : ℕ} (e : x ≡ Is lift at′) where
     pub line-no-comma : (getD text at′ 0 ≡ comma → ⊥) → Malformed ≡ lineAt text start
-    line-no-comma n = go (no-comma (line rest) (λ z. n (sym (rest-head text start at′ (number-is largestLift text start h e .2)) ∙ head z)))
+    line-no-comma n = go (no-comma (firstLine rest) (λ z. n (sym (rest-head text start at′ (number-is largestLift text start h e .2)) ∙ head z)))
       where
         rest : List ℕ
         rest = drop (span (drop start text)) (drop start text)
 
-        head : getD (line rest) 0 0 ≡ comma → getD rest 0 0 ≡ comma
+        head : getD (firstLine rest) 0 0 ≡ comma → getD rest 0 0 ≡ comma
         head z = pick (line-head rest)
           where
-            pick : (line rest ≡ []) ⊎ (getD (line rest) 0 0 ≡ getD rest 0 0) → getD rest 0 0 ≡ comma
+            pick : (firstLine rest ≡ []) ⊎ (getD (firstLine rest) 0 0 ≡ getD rest 0 0) → getD rest 0 0 ≡ comma
             pick (inl q) = let y : _≡_ {A = ℕ} 0 comma = rw q at z in absurd (omega arith)
             pick (inr q) = sym q ∙ z
 
-        go : (empty (before (line rest)) ≡ false) ⊎ (behind (line rest) ≡ []) → Malformed ≡ lineAt text start
-        go (inl q) = said text start (no-lift (line (drop start text)) (lift-field (drop start text) ∙ rw q))
-        go (inr q) = said text start (no-count (line (drop start text)) (rw (count-field (drop start text), q)))
+        go : (empty (beforeComma (firstLine rest)) ≡ false) ⊎ (behindComma (firstLine rest) ≡ []) → Malformed ≡ lineAt text start
+        go (inl q) = said text start (no-lift (firstLine (drop start text)) (lift-field (drop start text) ∙ rw q))
+        go (inr q) = said text start (no-count (firstLine (drop start text)) (rw (count-field (drop start text), q)))
 
     pub line-short : length text ≤ at′ → Malformed ≡ lineAt text start
     line-short l = line-no-comma (λ z. let y : _≡_ {A = ℕ} 0 comma = sym (List·getD-eq-default text 0 l) ∙ z in omega arith)
@@ -292,21 +292,21 @@ module _ (text : List ℕ) (start : ℕ) {x : Number} (h : x ≡ numberAt larges
       rest-comma : drop (span (drop start text)) (drop start text) ≡ comma ∷ drop (at′ + 1) text
       rest-comma = rw (rest-is text start, ← number-is largestLift text start h e .2, drop-cons text at′ 0 room, q, add-one at′)
 
-      behind-comma : behind (line (drop start text)) ≡ line (drop (at′ + 1) text)
-      unfolding behind
+      behind-comma : behindComma (firstLine (drop start text)) ≡ firstLine (drop (at′ + 1) text)
+      unfolding behindComma
       behind-comma = rw (count-field (drop start text), rest-comma, line-next comma (drop (at′ + 1) text))
 
-      before-comma : before (line (drop start text)) ≡ leading (drop start text)
-      unfolding before
+      before-comma : beforeComma (firstLine (drop start text)) ≡ leading (drop start text)
+      unfolding beforeComma
       before-comma =
-          rw (line-leading (drop start text), before-leading (drop start text) (line (drop (span (drop start text)) (drop start text))), rest-comma, line-next comma (drop (at′ + 1) text))
+          rw (line-leading (drop start text), before-leading (drop start text) (firstLine (drop (span (drop start text)) (drop start text))), rest-comma, line-next comma (drop (at′ + 1) text))
           (append-nil _)
 
       module _ {y : Number} (g : y ≡ numberAt largestCount text (at′ + 1)) where
         pub line-no-count : y ≡ Not → Malformed ≡ lineAt text start
         line-no-count f =
             let cs = drop (at′ + 1) text in
-            said text start (no-count _ (rw behind-comma (count-number cs ∙ rw (number-not largestCount text (at′ + 1) g f) (cond-false (empty (line (drop (span cs) cs)))))))
+            said text start (no-count _ (rw behind-comma (count-number cs ∙ rw (number-not largestCount text (at′ + 1) g f) (cond-false (empty (firstLine (drop (span cs) cs)))))))
 
         module _ {count end : ℕ} (f : y ≡ Is count end) where
           rest-end : drop (span (drop (at′ + 1) text)) (drop (at′ + 1) text) ≡ drop end text
@@ -323,11 +323,11 @@ module _ (text : List ℕ) (start : ℕ) {x : Number} (h : x ≡ numberAt larges
                 let o = ending-at text end k w in
                 let a = number-is largestLift text start h e in
                 let b = number-is largestCount text (at′ + 1) g f in
-                let l : line cs ≡ leading cs = line-leading cs ∙ rw (rest-end, empty-line (line (drop end text)) (o .0)) (append-nil (leading cs)) in
+                let l : firstLine cs ≡ leading cs = line-leading cs ∙ rw (rest-end, empty-line (firstLine (drop end text)) (o .0)) (append-nil (leading cs)) in
                 let s : extent (drop start text) ≡ span (drop start text) + suc (span cs + extent (drop end text)) =
                 extent-leading (drop start text) ∙ rw (rest-comma) (ap (λ n. span (drop start text) + n) (extent-comma cs ∙ ap suc (extent-leading cs ∙ rw rest-end))) in
-                let c : entry (line (drop start text)) ≡ counted (value (leading (drop start text))) (value (leading cs)) =
-                whole (line (drop start text)) (before-comma) (behind-comma ∙ l) (a .0) (b .0) in
+                let c : countLine (firstLine (drop start text)) ≡ counted (value (leading (drop start text))) (value (leading cs)) =
+                whole (firstLine (drop start text)) (before-comma) (behind-comma ∙ l) (a .0) (b .0) in
                 rw c (three (a .1) (b .1) (omega (arith, s, o .1, a .2, b .2)))
               where
                 extent-comma : (bs : List ℕ) → extent (comma ∷ bs) ≡ suc (extent bs)
@@ -338,16 +338,16 @@ module _ (text : List ℕ) (start : ℕ) {x : Number} (h : x ≡ numberAt larges
 
 -- ---- the ways out of an ending
 
-ends-LF : (b : ℕ) (bs : List ℕ) → b ≡ LF → (empty (line (b ∷ bs)) ≡ true) × (extent (b ∷ bs) ≡ 1)
+ends-LF : (b : ℕ) (bs : List ℕ) → b ≡ LF → (empty (firstLine (b ∷ bs)) ≡ true) × (extent (b ∷ bs) ≡ 1)
 unfolding extent
 ends-LF b bs h = (rw (line-next b bs, eq-eqb b LF h), rw (eq-eqb b LF h))
 
-ends-CRLF : (b : ℕ) (bs : List ℕ) → b ≡ CR → getD bs 0 0 ≡ LF → (empty (line (b ∷ bs)) ≡ true) × (extent (b ∷ bs) ≡ 2)
+ends-CRLF : (b : ℕ) (bs : List ℕ) → b ≡ CR → getD bs 0 0 ≡ LF → (empty (firstLine (b ∷ bs)) ≡ true) × (extent (b ∷ bs) ≡ 2)
 unfolding extent
 ends-CRLF b [] h k = let z : _≡_ {A = ℕ} 0 LF = k in absurd (omega arith)
 ends-CRLF b (c ∷ cs) h k = (rw (line-next b (c ∷ cs), line-next c cs, h, k), rw (h, k))
 
-no-end : (b : ℕ) (bs : List ℕ) → (b ≡ LF → ⊥) → endingCR b bs ≡ false → empty (line (b ∷ bs)) ≡ false
+no-end : (b : ℕ) (bs : List ℕ) → (b ≡ LF → ⊥) → endingCR b bs ≡ false → empty (firstLine (b ∷ bs)) ≡ false
 no-end b bs h k = rw (line-next b bs, ne-eqb b LF h, k)
 
 module _ (text : List ℕ) (i : ℕ) where
@@ -356,10 +356,10 @@ module _ (text : List ℕ) (i : ℕ) where
   ending-past h = rw (drop-of-length-le text h, line-none) (ap At (omega arith))
 
   module _ (h : i < length text) where
-    ended : {n : ℕ} → (empty (line (getD text i 0 ∷ drop (suc i) text)) ≡ true) × (extent (getD text i 0 ∷ drop (suc i) text) ≡ n) → At (i + n) ≡ endingAt text i
+    ended : {n : ℕ} → (empty (firstLine (getD text i 0 ∷ drop (suc i) text)) ≡ true) × (extent (getD text i 0 ∷ drop (suc i) text) ≡ n) → At (i + n) ≡ endingAt text i
     ended {n} (e, q) = rw (drop-cons text i 0 h, e, q)
 
-    unended : empty (line (getD text i 0 ∷ drop (suc i) text)) ≡ false → Nothing ≡ endingAt text i
+    unended : empty (firstLine (getD text i 0 ∷ drop (suc i) text)) ≡ false → Nothing ≡ endingAt text i
     unended e = rw (drop-cons text i 0 h, e)
 
     pub ending-LF : getD text i 0 ≡ LF → At (i + 1) ≡ endingAt text i

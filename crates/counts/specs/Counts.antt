@@ -10,20 +10,20 @@ use Rattle.sheet.specs.Sheet.{Lift, lifts, sheetOf}
 use Rattle.reply.specs.Reply.{numbered, Reply, replied}
 use Rattle.sheet.specs.Reading.{Reading, faulty, sound, ofWords}
 use Rattle.tally.specs.Verdict.{Verdict, refused, fits, unlessFaulty, verdict, ofVerdict}
-use Rattle.counts.specs.Text.{lines, Entry, counted, malformed, entry}
+use Rattle.counts.specs.Text.{lines, CountLine, counted, malformed, countLine}
 
 -- ---- the lines one by one
 
 -- line i, from what it says, the numbers of the sheet's lifts, those that had a line, and what follows if it is taken:
 -- "14 when a line has another form, 15 when its lift is absent from the sheet or had a line already"
-abbrev pub atLine : Entry → ℕ → List ℕ → List ℕ → (ℕ → Reading) → Reading
+abbrev pub atLine : CountLine → ℕ → List ℕ → List ℕ → (ℕ → Reading) → Reading
 atLine malformed i ns had next = faulty (numbered 14 i)
 atLine (counted n c) i ns had next = cond (among n ns && not (among n had)) (next n) (faulty (numbered 15 i))
 
 -- the first faulty line's refusal from line i on, or that none is faulty
 unfoldable pub linesFrom : List ℕ → List ℕ → ℕ → List (List ℕ) → Reading
 linesFrom ns had i [] = sound
-linesFrom ns had i (x ∷ xs) = atLine (entry x) i ns had (λ n. linesFrom ns (n ∷ had) (i + 1) xs)
+linesFrom ns had i (x ∷ xs) = atLine (countLine x) i ns had (λ n. linesFrom ns (n ∷ had) (i + 1) xs)
 
 abbrev pub numbersOf : List Lift → List ℕ
 numbersOf ls = map (λ l. l .number) ls
@@ -43,14 +43,14 @@ abbrev pub remeasured : Lift → ℕ → Lift
 remeasured l m = record { number = l .number; old = l .old; new = record { round = l .new .round; measure = m }; held = l .held }
 
 -- "the lift's new measure becomes the count divided by 100, rounded up": that of lift n, if the line is the lift's, else another
-abbrev pub measureBy : Entry → ℕ → Option ℕ → Option ℕ
+abbrev pub measureBy : CountLine → ℕ → Option ℕ → Option ℕ
 measureBy (counted m c) n other = cond (eqb m n) (some (hundreds c)) other
 measureBy malformed n other = other
 
 -- the new measure that the lines give lift n, if one is the lift's
 unfoldable pub measureFor : List (List ℕ) → ℕ → Option ℕ
 measureFor [] n = none
-measureFor (x ∷ xs) n = measureBy (entry x) n (measureFor xs n)
+measureFor (x ∷ xs) n = measureBy (countLine x) n (measureFor xs n)
 
 -- "Lifts without a line keep theirs."
 abbrev pub measuredBy : Lift → Option ℕ → Lift
@@ -67,8 +67,8 @@ renewed sheet text = sheetOf (map (measured (lines text)) (lifts sheet))
 -- ---- the order of the refusals
 
 -- 14 and 15 "after 1 to 6 for the sheet lent", and so after 16, "wherever 4 is checked"; "The result is then checked as any sheet."
-unfoldable pub answer : List ℕ → List ℕ → Verdict
-answer sheet text = unlessFaulty (ofWords sheet) (unlessFaulty (ofLines (lifts sheet) (lines text)) (verdict (renewed sheet text)))
+unfoldable pub countsVerdict : List ℕ → List ℕ → Verdict
+countsVerdict sheet text = unlessFaulty (ofWords sheet) (unlessFaulty (ofLines (lifts sheet) (lines text)) (verdict (renewed sheet text)))
 
 -- ---- the reply and the sheet at the end
 
@@ -79,9 +79,9 @@ outputOf before after (fits a b) = after
 
 -- the reply to a sheet and a text: "a call that chooses nothing and names no other answer replies 0, how many lines it took .., and 0 words
 -- read"
-abbrev pub reply : List ℕ → List ℕ → Reply
-reply sheet text = ofVerdict (answer sheet text) (λ _. replied (length (lines text)) 0)
+abbrev pub countsReply : List ℕ → List ℕ → Reply
+countsReply sheet text = ofVerdict (countsVerdict sheet text) (λ _. replied (length (lines text)) 0)
 
 -- the sheet after the call
-abbrev pub output : List ℕ → List ℕ → List ℕ
-output sheet text = outputOf sheet (renewed sheet text) (answer sheet text)
+abbrev pub countsOutput : List ℕ → List ℕ → List ℕ
+countsOutput sheet text = outputOf sheet (renewed sheet text) (countsVerdict sheet text)

@@ -8,16 +8,16 @@ use Rattle.sheet.specs.Sheet.{Lift, lifts}
 use Rattle.sheet.specs.Lift.{placeAt, New}
 use Rattle.tally.specs.Verdict.{fits}
 use Rattle.tally.specs.Law.{Fitting}
-use Rattle.counts.specs.Text.{lines, counted, entry}
+use Rattle.counts.specs.Text.{lines, counted, countLine}
 use Rattle.probability.specs.Among.{among}
-use Rattle.counts.specs.Counts.{numbersOf, hundreds, remeasured, measured, renewed, answer}
+use Rattle.counts.specs.Counts.{numbersOf, hundreds, remeasured, measured, renewed, countsVerdict}
 
 -- a line that is taken, among all lines, into lifts of these numbers: it names one of them, whose new measure is its count and that of no
 -- other line
 pub record TakenLine (ns : List ℕ) (xs : List (List ℕ)) (x : List ℕ) : Type 0 where
   pub lift : ℕ
   pub count : ℕ
-  pub says : entry x ≡ counted lift count
+  pub says : countLine x ≡ counted lift count
   pub there : among lift ns ≡ true
   pub alone : (l : Lift) → l .number ≡ lift → measured xs l ≡ remeasured l (hundreds count)
   -- the lift then counts with it, also if it was not counted before: what a line says is never "not counted"
@@ -31,4 +31,4 @@ pub record TakenText (sheet text : List ℕ) : Type 0 where
 
 -- so it is whenever a text is not refused
 abbrev pub Takes : List ℕ → List ℕ → Type 0
-Takes sheet text = (a b : ℕ) → answer sheet text ≡ fits a b → TakenText sheet text
+Takes sheet text = (a b : ℕ) → countsVerdict sheet text ≡ fits a b → TakenText sheet text

@@ -11,7 +11,7 @@ use Rattle.sheet.specs.Reading.{faulty, sound}
 use Rattle.tally.specs.declared.Found.{Found}
 use Rattle.tally.specs.declared.Found.the-variants.{At, Nothing}
 use Rattle.reply.specs.Refusal.{refusalOf}
-use Rattle.counts.specs.Text.{LF, lines, isDigit, value, empty, isNumber, Entry, counted, malformed, entry}
+use Rattle.counts.specs.Text.{LF, lines, isDigit, value, empty, isNumber, CountLine, counted, malformed, countLine}
 use Rattle.probability.specs.Among.{among}
 use Rattle.counts.specs.Counts.{linesFrom, measureFor, measuredBy}
 use Rattle.counts.specs.declared.text.Digits.{Digits}
@@ -49,8 +49,8 @@ numberAt limit text i = cond (isNumber limit (leading (drop i text))) (Is (value
 -- ---- lines
 
 -- the first line of a text without its ending, and how long it is with it
-unfoldable pub line : List ℕ → List ℕ
-line bs = getD (lines bs) 0 []
+unfoldable pub firstLine : List ℕ → List ℕ
+firstLine bs = getD (lines bs) 0 []
 
 unfoldable pub extent : List ℕ → ℕ
 extent [] = 0
@@ -58,15 +58,15 @@ extent (b ∷ bs) = cond (eqb b LF) 1 (suc (extent bs))
 
 -- what is behind the ending at a position, if there is one
 abbrev pub endingAt : List ℕ → ℕ → Found
-endingAt text i = cond (empty (line (drop i text))) (At (i + extent (drop i text))) Nothing
+endingAt text i = cond (empty (firstLine (drop i text))) (At (i + extent (drop i text))) Nothing
 
-abbrev pub lineOf : Entry → ℕ → Line
+abbrev pub lineOf : CountLine → ℕ → Line
 lineOf (counted n c) next = EntryLine n c next
 lineOf malformed next = Malformed
 
 -- the line at a position
 abbrev pub lineAt : List ℕ → ℕ → Line
-lineAt text i = lineOf (entry (line (drop i text))) (i + extent (drop i text))
+lineAt text i = lineOf (countLine (firstLine (drop i text))) (i + extent (drop i text))
 
 -- ---- lifts
 
@@ -76,7 +76,7 @@ RisingAbove n [] = Unit {0}
 RisingAbove n (m ∷ ms) = (n < m) × RisingAbove m ms
 
 -- numbers of a sheet's lifts: they rise, are not too many, and have 32 bits at most
-pub record Numbers (ns : List ℕ) : Type 0 where
+pub record LiftNumbers (ns : List ℕ) : Type 0 where
   pub rising : RisingAbove 0 ns
   pub few : length ns ≤ mostLifts
   pub small : (k : ℕ) → getD ns k 0 < 2 ^ 32
@@ -109,9 +109,9 @@ pub record AllTaken (ns : List ℕ) (xs : List (List ℕ)) (n : ℕ) (measures :
   pub filled : measures ≡ slots ns xs
 
 -- what the answer to the lines says
-abbrev pub Tells : List ℕ → List (List ℕ) → Lines → List ℕ → Type 0
-Tells ns xs (Faulty x) measures = linesFrom ns [] 1 xs ≡ faulty (refusalOf x)
-Tells ns xs (All n) measures = AllTaken ns xs n measures
+abbrev pub LinesAnswered : List ℕ → List (List ℕ) → Lines → List ℕ → Type 0
+LinesAnswered ns xs (Faulty x) measures = linesFrom ns [] 1 xs ≡ faulty (refusalOf x)
+LinesAnswered ns xs (All n) measures = AllTaken ns xs n measures
 
 -- ---- the sheet
 

@@ -35,13 +35,13 @@ lines (b ∷ bs) = cond (eqb b LF) ([] ∷ lines bs) (cond (endingCR b bs) (line
 -- ---- fields
 
 -- the field before the first comma of a line, and what is behind that comma
-unfoldable pub before : List ℕ → List ℕ
-before [] = []
-before (b ∷ bs) = cond (eqb b comma) [] (b ∷ before bs)
+unfoldable pub beforeComma : List ℕ → List ℕ
+beforeComma [] = []
+beforeComma (b ∷ bs) = cond (eqb b comma) [] (b ∷ beforeComma bs)
 
-unfoldable pub behind : List ℕ → List ℕ
-behind [] = []
-behind (b ∷ bs) = cond (eqb b comma) bs (behind bs)
+unfoldable pub behindComma : List ℕ → List ℕ
+behindComma [] = []
+behindComma (b ∷ bs) = cond (eqb b comma) bs (behindComma bs)
 
 -- ---- numbers
 
@@ -80,11 +80,11 @@ abbrev pub largestCount : ℕ
 largestCount = 104857600
 
 -- what a line says: the count of a lift, or nothing, as it "has another form"
-pub data Entry : Type 0 where
-  counted : (lift count : ℕ) → Entry
-  malformed : Entry
+pub data CountLine : Type 0 where
+  counted : (lift count : ℕ) → CountLine
+  malformed : CountLine
 
 -- "each line is a lift number .., a comma and a count .., both decimal digits". A line without a comma has nothing behind it, which is
 -- no number; a second comma is no digit
-unfoldable pub entry : List ℕ → Entry
-entry l = cond (isNumber largestLift (before l) && isNumber largestCount (behind l)) (counted (value (before l)) (value (behind l))) malformed
+unfoldable pub countLine : List ℕ → CountLine
+countLine l = cond (isNumber largestLift (beforeComma l) && isNumber largestCount (behindComma l)) (counted (value (beforeComma l)) (value (behindComma l))) malformed

@@ -9,7 +9,7 @@ use Rattle.probability.specs.Table.{same}
 use Rattle.sheet.specs.Sheet.{sheetOf}
 use Rattle.reply.specs.Reply.{Reply, numbers, sameReply}
 use Rattle.sheet.specs.Worked.{lift, example}
-use Rattle.counts.specs.Counts.{reply, output}
+use Rattle.counts.specs.Counts.{countsReply, countsOutput}
 
 -- the bytes of a text, one for each character
 abbrev bytes : String → List ℕ
@@ -18,7 +18,7 @@ bytes (c ▸ s) = code c ∷ bytes s
 
 -- a sheet and a text, the reply, and the sheet after the call
 abbrev case : List ℕ → String → Reply → List ℕ → Bool
-case ws t r us = sameReply (reply ws (bytes t)) r && same (output ws (bytes t)) us
+case ws t r us = sameReply (countsReply ws (bytes t)) r && same (countsOutput ws (bytes t)) us
 
 -- so many lines taken, and the sheet then
 abbrev taken : List ℕ → String → ℕ → List ℕ → Bool

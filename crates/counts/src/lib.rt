@@ -7,7 +7,7 @@ ghost use Rattle.reply.specs.Refusal.{replyOf};
 ghost use Rattle.sheet.specs.Sheet.{largestSum, lifts};
 ghost use Rattle.sheet.specs.Reading.{Legible};
 ghost use Rattle.tally.specs.Verdict.{verdict, verdictOf, ofVerdict};
-ghost use Rattle.counts.specs.Counts.{numbersOf, outputOf, reply, output};
+ghost use Rattle.counts.specs.Counts.{numbersOf, outputOf, countsReply, countsOutput};
 ghost use Rattle.counts.specs.Law.{Takes};
 ghost use Rattle.counts.specs.Scan.{wordWith, sheetWith};
 use lines::Lines;
@@ -122,8 +122,8 @@ fn take_lines(
     requires { ⌜ length (now numbers) ≡ length (lifts (now sheet)) ⌝ }
     requires { ⌜ now measures ≡ replicate (length (lifts (now sheet))) 0 ⌝ }
     requires { ⌜ length (now words) ≡ length (now sheet) ⌝ }
-    ensures replied { λ r. ⌜ replyOf r ≡ reply (now (sheet .entry)) (now (text .entry)) ⌝ }
-    ensures written { λ _. ⌜ now (sheet .exit) ≡ output (now (sheet .entry)) (now (text .entry)) ⌝ }
+    ensures replied { λ r. ⌜ replyOf r ≡ countsReply (now (sheet .entry)) (now (text .entry)) ⌝ }
+    ensures written { λ _. ⌜ now (sheet .exit) ≡ countsOutput (now (sheet .entry)) (now (text .entry)) ⌝ }
 {
     number_lifts(sheet, numbers);
     match lines::gather(text, numbers, measures) {
@@ -135,8 +135,8 @@ fn take_lines(
 // The counts of a text taken into a legible sheet.
 fn take_legible(sheet: &mut [u32], text: &[u8]) -> Answer
     requires { ⌜ Legible (now sheet) ⌝ }
-    ensures replied { λ r. ⌜ replyOf r ≡ reply (now (sheet .entry)) (now (text .entry)) ⌝ }
-    ensures written { λ _. ⌜ now (sheet .exit) ≡ output (now (sheet .entry)) (now (text .entry)) ⌝ }
+    ensures replied { λ r. ⌜ replyOf r ≡ countsReply (now (sheet .entry)) (now (text .entry)) ⌝ }
+    ensures written { λ _. ⌜ now (sheet .exit) ≡ countsOutput (now (sheet .entry)) (now (text .entry)) ⌝ }
 {
     let n = sheet::size(sheet);
     let long = sheet.len();
@@ -154,8 +154,8 @@ fn take_legible(sheet: &mut [u32], text: &[u8]) -> Answer
 
 // The counts of a text taken into a sheet: the reply, and the sheet at the end; a refusal writes nothing.
 pub fn take(sheet: &mut [u32], text: &[u8]) -> Answer
-    ensures replied { λ r. ⌜ replyOf r ≡ reply (now (sheet .entry)) (now (text .entry)) ⌝ }
-    ensures written { λ _. ⌜ now (sheet .exit) ≡ output (now (sheet .entry)) (now (text .entry)) ⌝ }
+    ensures replied { λ r. ⌜ replyOf r ≡ countsReply (now (sheet .entry)) (now (text .entry)) ⌝ }
+    ensures written { λ _. ⌜ now (sheet .exit) ≡ countsOutput (now (sheet .entry)) (now (text .entry)) ⌝ }
     ensures taken { λ _. ⌜ Takes (now (sheet .entry)) (now (text .entry)) ⌝ }
 {
     match sheet::read(sheet) {

@@ -7,7 +7,7 @@ ghost use Rattle.probability.specs.Sum.{indicator};
 ghost use Rattle.sheet.specs.Sheet.{mostLifts};
 ghost use Rattle.counts.specs.Text.{lines, largestCount};
 ghost use Rattle.counts.specs.Counts.{hundreds as hundredsOf};
-ghost use Rattle.counts.specs.Scan.{Numbers, cutAt, Located, Tells};
+ghost use Rattle.counts.specs.Scan.{LiftNumbers, cutAt, Located, LinesAnswered};
 use crate::text::Line;
 use crate::text::read_line;
 use reply::Refusal;
@@ -38,8 +38,8 @@ fn at_most(m: u64, n: u64) -> usize
 }
 
 // Where the part that may have a number begins, once it is cut behind so many.
-fn cut(numbers: &[u64], low: usize, half: usize, n: u64) -> usize
-    requires { ⌜ Numbers (now numbers) ⌝ }
+fn cut_at(numbers: &[u64], low: usize, half: usize, n: u64) -> usize
+    requires { ⌜ LiftNumbers (now numbers) ⌝ }
     requires { ⌜ low + half ≤ mostLifts ⌝ }
     requires { ⌜ n < 2 ^ 32 ⌝ }
     ensures { λ r. ⌜ r ≡ cutAt (now (numbers .entry)) low half n ⌝ }
@@ -53,7 +53,7 @@ fn cut(numbers: &[u64], low: usize, half: usize, n: u64) -> usize
 
 // Where a number stands among rising numbers: the part that may have it is halved until one is left.
 fn find(numbers: &[u64], n: u64) -> Found
-    requires { ⌜ Numbers (now numbers) ⌝ }
+    requires { ⌜ LiftNumbers (now numbers) ⌝ }
     requires { ⌜ n < 2 ^ 32 ⌝ }
     ensures { λ r. ⌜ Located (now (numbers .entry)) n r ⌝ }
 {
@@ -61,7 +61,7 @@ fn find(numbers: &[u64], n: u64) -> Found
     let mut size = Sheet::MOST_LIFTS;
     while 1 < size {
         let half = size / 2;
-        low = cut(numbers, low, half, n);
+        low = cut_at(numbers, low, half, n);
         size -= half;
     }
     if numbers.len() <= low {
@@ -75,9 +75,9 @@ fn find(numbers: &[u64], n: u64) -> Found
 
 // The lines one by one: a slot for each lift that has one, one more than its new measure.
 pub fn gather(text: &[u8], numbers: &[u64], measures: &mut [u64]) -> Lines
-    requires { ⌜ Numbers (now numbers) ⌝ }
+    requires { ⌜ LiftNumbers (now numbers) ⌝ }
     requires { ⌜ now measures ≡ replicate (length (now numbers)) 0 ⌝ }
-    ensures { λ r. ⌜ Tells (now (numbers .entry)) (lines (now (text .entry))) r (now (measures .exit)) ⌝ }
+    ensures { λ r. ⌜ LinesAnswered (now (numbers .entry)) (lines (now (text .entry))) r (now (measures .exit)) ⌝ }
 {
     let mut at = 0;
     let mut i = 0;

@@ -8,7 +8,7 @@ use lib.Dec.{ltb}
 use lib.ListN.{length, drop, length-drop}
 use Rattle.probability.specs.Plan.{Plan, done, draw}
 use Rattle.draw.specs.Draw.{K, drawFrom, drawAt}
-use Rattle.draw.specs.Run.{Run, finished, short, drew, follow, run}
+use Rattle.draw.specs.Run.{Run, finished, short, extendRun, follow, run}
 use Rattle.draw.specs.declared.Drawn.{Drawn}
 use Rattle.draw.specs.declared.Drawn.the-variants.{Value, Short}
 
@@ -28,7 +28,7 @@ unfolding run
 run-between m ws from (done a) {next = next} e = let x : from ≡ next = cc in (omega arith, λ h. omega arith)
 run-between {A} m ws from (draw b k) {vs} {a} {next} e = go (drawAt m ws from b) refl e (λ v n us. run-between m ws n (k v) {vs = us})
   where
-    behind : (v n : ℕ) (y : Run A) → drew v y ≡ finished vs a next → drawAt m ws from b ≡ Value v n
+    behind : (v n : ℕ) (y : Run A) → extendRun v y ≡ finished vs a next → drawAt m ws from b ≡ Value v n
         → ((us : List ℕ) → y ≡ finished us a next → (n ≤ next) × (n ≤ length ws → next ≤ length ws)) → (from ≤ next) × (from ≤ length ws → next ≤ length ws)
     behind v n (finished us c l) q d rest =
         let x : finished us c l ≡ finished us a next = cc in

@@ -10,9 +10,9 @@ use lib.ListN.{drop}
 use lib.Dec.{ltb}
 use borrow.Author.Tests.{ltb-true}
 use Rattle.probability.specs.Sum.{over}
-use Rattle.probability.specs.Plan.{Plan, done, draw, Every, Path, drew as step, paths}
+use Rattle.probability.specs.Plan.{Plan, done, draw, Every, Path, extendPath as step, paths}
 use Rattle.draw.specs.Draw.{K, drawFrom, drawAt}
-use Rattle.draw.specs.Run.{Run, finished, short, drew, follow, run, FollowsAPath}
+use Rattle.draw.specs.Run.{Run, finished, short, extendRun, follow, run, FollowsAPath}
 use Rattle.draw.specs.declared.Drawn.{Drawn}
 use Rattle.draw.specs.declared.Drawn.the-variants.{Value, Short}
 
@@ -59,7 +59,7 @@ unfolding run paths
 followed m (done a) ws vs at next x e = (1, stops a vs at next x e)
 followed {A} m (draw b k) ws vs at next x e = go (drawAt m ws at b) refl e (λ v n us. followed m (k v) ws us n next x)
   where
-    reached : (v : ℕ) (r : Run A) → v < b → drew v r ≡ finished vs x next
+    reached : (v : ℕ) (r : Run A) → v < b → extendRun v r ≡ finished vs x next
         → ((us : List ℕ) → r ≡ finished us x next → (o : ℕ) × List·Memᴰ {A = Path A} (record { values = us; bounds = o; result = x }) (paths (k v)))
         → (o : ℕ) × List·Memᴰ {A = Path A} (record { values = vs; bounds = o; result = x }) (over _++_ [] b (λ v. map (step b v) (paths (k v))))
     reached v (finished us y n) l q h =
@@ -79,7 +79,7 @@ unfolding run Every
 run-every P m (done x) d ws at {vs} {next} {a} e = let z : x ≡ a = cc in rw z at d
 run-every {A} P m (draw b k) d ws at {vs} {next} {a} e = go (drawAt m ws at b) refl e (λ v l n us. run-every P m (k v) (d .1 v l) ws n {vs = us})
   where
-    reached : (v : ℕ) (r : Run A) → drew v r ≡ finished vs a next → ((us : List ℕ) → r ≡ finished us a next → P a) → P a
+    reached : (v : ℕ) (r : Run A) → extendRun v r ≡ finished vs a next → ((us : List ℕ) → r ≡ finished us a next → P a) → P a
     reached v (finished us y n) q h = h us (cc)
     reached v short q h = let z : _≡_ {A = ℕ} 0 1 = cc in absurd (omega arith)
 
@@ -116,7 +116,7 @@ fixed {A} m (draw b k) ws at next a q d e =
     let (r, f, c) = map-cases (step b v) (paths (k v)) h in
     ap (λ (z : Path A). z .result) f ∙ go v r c (ap (λ (z : Path A). z .values) f) (drawAt m ws at b) e (λ n. fixed m (k v) ws n next a r c)
   where
-    last : (v : ℕ) (r : Path A) (u : ℕ) (s : Run A) → q .values ≡ v ∷ r .values → drew u s ≡ finished (q .values) a next → (u ≡ v) × (s ≡ finished (r .values) a next)
+    last : (v : ℕ) (r : Path A) (u : ℕ) (s : Run A) → q .values ≡ v ∷ r .values → extendRun u s ≡ finished (q .values) a next → (u ≡ v) × (s ≡ finished (r .values) a next)
     last v r u (finished us y n) f g = (cc, cc)
     last v r u short f g = let z : _≡_ {A = ℕ} 0 1 = cc in absurd (omega arith)
 

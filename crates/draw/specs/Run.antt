@@ -13,13 +13,13 @@ pub data Run (A : Type 0) : Type 0 where
   short : Run A
 
 -- a run that first drew v
-abbrev pub drew : {A : Type 0} → ℕ → Run A → Run A
-drew v (finished vs a next) = finished (v ∷ vs) a next
-drew v short = short
+abbrev pub extendRun : {A : Type 0} → ℕ → Run A → Run A
+extendRun v (finished vs a next) = finished (v ∷ vs) a next
+extendRun v short = short
 
 -- after a draw, the run goes on from its value and the position behind it
 abbrev pub follow : {A : Type 0} → Drawn → (ℕ → ℕ → Run A) → Run A
-follow (Value v next) k = drew v (k v next)
+follow (Value v next) k = extendRun v (k v next)
 follow Short k = short
 
 -- the run of a plan on the words ws from a position on, m being the largest word

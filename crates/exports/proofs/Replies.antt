@@ -14,25 +14,25 @@ use Rattle.round.specs.declared.Selected.{Selected}
 use Rattle.round.specs.declared.Selected.the-variants.{At, Short as Ended}
 use Rattle.reply.specs.Reply.{Numbered, Reply, numbers}
 use Rattle.tally.specs.Verdict.{Verdict, refused, fits}
-use Rattle.exports.specs.Reply.{Replied, Chose, Answered}
+use Rattle.exports.specs.Reply.{DrawReply, RoundReply, CheckReply}
 
-pub replied-value : {d : Drawn} {v n x y : ℕ} → Value v n ≡ d → Replied d true x v y n
-replied-value e = rw (← e) (record { told = refl; value-written = refl; next-written = refl })
+pub replied-value : {d : Drawn} {v n x y : ℕ} → Value v n ≡ d → DrawReply d true x v y n
+replied-value e = rw (← e) (record { result = refl; value-written = refl; next-written = refl })
 
-pub replied-short : {d : Drawn} {x y : ℕ} → Short ≡ d → Replied d false x x y y
-replied-short e = rw (← e) (record { told = refl; value-written = refl; next-written = refl })
+pub replied-short : {d : Drawn} {x y : ℕ} → Short ≡ d → DrawReply d false x x y y
+replied-short e = rw (← e) (record { result = refl; value-written = refl; next-written = refl })
 
-pub chose-at : {s : Selected} {i o n x y z : ℕ} → At i o n ≡ s → Chose s true x i y o z n
-chose-at e = rw (← e) (record { told = refl; place-written = refl; outcome-written = refl; next-written = refl })
+pub chose-at : {s : Selected} {i o n x y z : ℕ} → At i o n ≡ s → RoundReply s true x i y o z n
+chose-at e = rw (← e) (record { result = refl; place-written = refl; outcome-written = refl; next-written = refl })
 
-pub chose-short : {s : Selected} {x y z : ℕ} → Ended ≡ s → Chose s false x x y y z z
-chose-short e = rw (← e) (record { told = refl; place-written = refl; outcome-written = refl; next-written = refl })
+pub chose-short : {s : Selected} {x y z : ℕ} → Ended ≡ s → RoundReply s false x x y y z z
+chose-short e = rw (← e) (record { result = refl; place-written = refl; outcome-written = refl; next-written = refl })
 
-pub answered-refused : {v : Verdict} {x : Numbered} {n p r : ℕ} → refused x ≡ v → n ≡ x .number → p ≡ x .place → Answered v n p r r
-answered-refused e h k = rw (← e) (record { told = h; place-written = k; rounds-written = refl })
+pub answered-refused : {v : Verdict} {x : Numbered} {n p r : ℕ} → refused x ≡ v → n ≡ x .number → p ≡ x .place → CheckReply v n p r r
+answered-refused e h k = rw (← e) (record { result = h; place-written = k; rounds-written = refl })
 
-pub answered-fits : {v : Verdict} {l k r : ℕ} → fits l k ≡ v → Answered v 0 l r k
-answered-fits e = rw (← e) (record { told = refl; place-written = refl; rounds-written = refl })
+pub answered-fits : {v : Verdict} {l k r : ℕ} → fits l k ≡ v → CheckReply v 0 l r k
+answered-fits e = rw (← e) (record { result = refl; place-written = refl; rounds-written = refl })
 
 -- a reply by its three numbers
 pub by-numbers : {r q : Reply} {n a b : ℕ} → n ≡ r .number → a ≡ r .second → b ≡ r .third → r ≡ q → numbers n a b ≡ q

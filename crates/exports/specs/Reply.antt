@@ -29,18 +29,18 @@ nextOr x (Value v next) = next
 nextOr x Short = x
 
 -- the answer to a draw d, and the two numbers lent: before the call and after it
-pub record Replied (d : Drawn) (answer : Bool) (value value′ next next′ : ℕ) : Type 0 where
-  pub told : answer ≡ isValue d
+pub record DrawReply (d : Drawn) (answer : Bool) (value value′ next next′ : ℕ) : Type 0 where
+  pub result : answer ≡ isValue d
   pub value-written : value′ ≡ valueOr value d
   pub next-written : next′ ≡ nextOr next d
 
 -- the donors, from their count and their whole old sums
-abbrev pub donorsOf : ℕ → ℕ → ℕ → Donors
-donorsOf count first second = cond (eqb count 0) None (cond (eqb count 1) (One first) (Two first second))
+abbrev pub donorsFrom : ℕ → ℕ → ℕ → Donors
+donorsFrom count first second = cond (eqb count 0) None (cond (eqb count 1) (One first) (Two first second))
 
 -- the held lifts, from their count and their places
-abbrev pub heldOf : ℕ → ℕ → ℕ → Held
-heldOf count first second = cond (eqb count 0) Neither (cond (eqb count 1) (Single first) (Both first second))
+abbrev pub heldFrom : ℕ → ℕ → ℕ → Held
+heldFrom count first second = cond (eqb count 0) Neither (cond (eqb count 1) (Single first) (Both first second))
 
 -- whether there is a choice; its place, outcome and next position, or what was there before
 abbrev pub isAt : Selected → Bool
@@ -60,16 +60,16 @@ behindOr x (At i o n) = n
 behindOr x Ended = x
 
 -- the answer to a choice s, and the three numbers lent: before the call and after it
-pub record Chose (s : Selected) (answer : Bool) (place place′ outcome outcome′ next next′ : ℕ) : Type 0 where
-  pub told : answer ≡ isAt s
+pub record RoundReply (s : Selected) (answer : Bool) (place place′ outcome outcome′ next next′ : ℕ) : Type 0 where
+  pub result : answer ≡ isAt s
   pub place-written : place′ ≡ placeOr place s
   pub outcome-written : outcome′ ≡ outcomeOr outcome s
   pub next-written : next′ ≡ behindOr next s
 
 -- the document's number of a refusal, 0 where the sheet fits
-abbrev pub numberOf : Verdict → ℕ
-numberOf (refused x) = x .number
-numberOf (fits lifts rounds) = 0
+abbrev pub checkNumber : Verdict → ℕ
+checkNumber (refused x) = x .number
+checkNumber (fits lifts rounds) = 0
 
 -- its place, or how many lifts there are
 abbrev pub placeOrLifts : Verdict → ℕ
@@ -82,7 +82,7 @@ roundsOr x (refused y) = x
 roundsOr x (fits lifts rounds) = rounds
 
 -- the answer to a sheet of verdict v, and the two numbers lent: after the call, and of the second before it too
-pub record Answered (v : Verdict) (answer place′ rounds rounds′ : ℕ) : Type 0 where
-  pub told : answer ≡ numberOf v
+pub record CheckReply (v : Verdict) (answer place′ rounds rounds′ : ℕ) : Type 0 where
+  pub result : answer ≡ checkNumber v
   pub place-written : place′ ≡ placeOrLifts v
   pub rounds-written : rounds′ ≡ roundsOr rounds v

@@ -3,14 +3,14 @@ ghost use mathlib.Core.Path.{_≡_};
 ghost use lib.ListN.{length};
 ghost use Rattle.draw.specs.Draw.{largest, drawAt};
 ghost use Rattle.round.specs.Choice.{selected};
-ghost use Rattle.round.specs.Rows.{lifts, Callable};
+ghost use Rattle.round.specs.Rows.{rowLifts, Callable};
 ghost use Rattle.tally.specs.Verdict.{verdict};
 ghost use Rattle.reply.specs.Reply.{numbers};
 ghost use Rattle.reply.specs.Refusal.{replyOf};
-ghost use Rattle.counts.specs.Counts.{reply as countsReply, output as countsOutput};
+ghost use Rattle.counts.specs.Counts.{countsReply, countsOutput};
 ghost use Rattle.selection.specs.Choice.{reply, output};
 ghost use Rattle.carry.specs.Reply.{replyNext, outputNext, lentSheet};
-ghost use Rattle.exports.specs.Reply.{Replied, donorsOf, heldOf, Chose, Answered};
+ghost use Rattle.exports.specs.Reply.{DrawReply, donorsFrom, heldFrom, RoundReply, CheckReply};
 use draw::Drawn;
 use reply::Answer;
 use round::Donors;
@@ -27,7 +27,7 @@ pub extern "C" fn jengpilo_draw_below(
     value: &mut u64,
     next: &mut usize,
 ) -> bool
-    ensures { λ r. ⌜ Replied (drawAt largest (now (words .entry)) at bound) r (now (value .entry)) (now (value .exit)) (now (next .entry)) (now (next .exit)) ⌝ }
+    ensures { λ r. ⌜ DrawReply (drawAt largest (now (words .entry)) at bound) r (now (value .entry)) (now (value .exit)) (now (next .entry)) (now (next .exit)) ⌝ }
 {
     if bound == 0 {
         return false;
@@ -44,8 +44,8 @@ pub extern "C" fn jengpilo_draw_below(
 }
 
 // The donors, from their count and their whole old sums.
-fn donors_of(count: u8, t1: u64, t2: u64) -> Donors
-    ensures { λ r. ⌜ r ≡ donorsOf count t1 t2 ⌝ }
+fn donors_from(count: u8, t1: u64, t2: u64) -> Donors
+    ensures { λ r. ⌜ r ≡ donorsFrom count t1 t2 ⌝ }
 {
     if count == 0 {
         return Donors::None;
@@ -57,8 +57,8 @@ fn donors_of(count: u8, t1: u64, t2: u64) -> Donors
 }
 
 // The held lifts, from their count and their places.
-fn held_of(count: u8, i: usize, j: usize) -> Held
-    ensures { λ r. ⌜ r ≡ heldOf count i j ⌝ }
+fn held_from(count: u8, i: usize, j: usize) -> Held
+    ensures { λ r. ⌜ r ≡ heldFrom count i j ⌝ }
 {
     if count == 0 {
         return Held::Neither;
@@ -85,11 +85,11 @@ pub extern "C" fn jengpilo_round_select(
     outcome: &mut u32,
     next: &mut usize,
 ) -> bool
-    requires { ⌜ Callable (donorsOf donors t1 t2) (lifts (now rows)) (heldOf held i j) ⌝ }
-    ensures { λ r. ⌜ Chose (selected (donorsOf donors t1 t2) (lifts (now (rows .entry))) (heldOf held i j) (now (words .entry)) at) r (now (place .entry)) (now (place .exit)) (now (outcome .entry)) (now (outcome .exit)) (now (next .entry)) (now (next .exit)) ⌝ }
+    requires { ⌜ Callable (donorsFrom donors t1 t2) (rowLifts (now rows)) (heldFrom held i j) ⌝ }
+    ensures { λ r. ⌜ RoundReply (selected (donorsFrom donors t1 t2) (rowLifts (now (rows .entry))) (heldFrom held i j) (now (words .entry)) at) r (now (place .entry)) (now (place .exit)) (now (outcome .entry)) (now (outcome .exit)) (now (next .entry)) (now (next .exit)) ⌝ }
 {
-    let from = donors_of(donors, t1, t2);
-    let here = held_of(held, i, j);
+    let from = donors_from(donors, t1, t2);
+    let here = held_from(held, i, j);
     let sums = round::sums_of(rows, from);
     match round::select(rows, from, here, sums, words, at) {
         Selected::At(p, o, n) => {
@@ -105,7 +105,7 @@ pub extern "C" fn jengpilo_round_select(
 // `sheet::check`: the document's number, the place written; or 0, how many lifts and how many new rounds written.
 #[no_mangle]
 pub extern "C" fn jengpilo_sheet_check(sheet: &[u32], place: &mut usize, rounds: &mut usize) -> u32
-    ensures { λ r. ⌜ Answered (verdict (now (sheet .entry))) r (now (place .exit)) (now (rounds .entry)) (now (rounds .exit)) ⌝ }
+    ensures { λ r. ⌜ CheckReply (verdict (now (sheet .entry))) r (now (place .exit)) (now (rounds .entry)) (now (rounds .exit)) ⌝ }
 {
     let checked = tally::check(sheet);
     match checked {

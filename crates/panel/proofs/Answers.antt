@@ -14,7 +14,7 @@ use Rattle.tally.specs.Law.{Fit}
 use Rattle.tally.specs.Verdict.{refused, fits, verdict}
 use Rattle.tally.proofs.Verdicts.{decided}
 use Rattle.sheet.specs.Lift.{New}
-use Rattle.selection.specs.Choice.{Choice, Panel, chosen, short, panel, ofPanel, unlessLacking, ofLent, reply, written, writtenOf, output}
+use Rattle.selection.specs.Choice.{Choice, Panel, chosen, short, panel, ofPanel, unlessLacking, ofLent, reply, writtenPairs, writtenPanel, output}
 use Rattle.selection.proofs.Steps.{Steps, steps, steps-count, steps-between}
 use Rattle.selection.proofs.Choices.{panel-rises}
 use Rattle.panel.specs.Choosing.{Gathers, Picked, pairs, withPairs, PairsFit, Answers}
@@ -55,18 +55,18 @@ module _ (ls : List Lift) (ws : List ℕ) (start : ℕ) (p : Picks) (d : Picked 
   onward z = let x = done z in omega (arith, x .gathers .next, steps-between (x .steps) .0)
 
   -- the reply is the panel's
-  pub told-ended : (p .short ≡ 0 → ⊥) → ofRefusal (numbered 13 (p .short)) ≡ ofPanel start (panel ls ws start)
-  told-ended h = rw (ended h)
+  pub replied-ended : (p .short ≡ 0 → ⊥) → ofRefusal (numbered 13 (p .short)) ≡ ofPanel start (panel ls ws start)
+  replied-ended h = rw (ended h)
 
-  pub told-done : {rounds : ℕ} → p .short ≡ 0 → rounds ≡ length (inUse New ls) → replied rounds (p .next - start) ≡ ofPanel start (panel ls ws start)
-  told-done z e = let x = done z in ap₂ replied (e ∙ sym (steps-count (x .steps))) (ap (λ n. n - start) (x .gathers .next)) ∙ sym (ap (ofPanel start) (x .is))
+  pub replied-done : {rounds : ℕ} → p .short ≡ 0 → rounds ≡ length (inUse New ls) → replied rounds (p .next - start) ≡ ofPanel start (panel ls ws start)
+  replied-done z e = let x = done z in ap₂ replied (e ∙ sym (steps-count (x .steps))) (ap (λ n. n - start) (x .gathers .next)) ∙ sym (ap (ofPanel start) (x .is))
 
   -- and so is the output
-  pub written-ended : (p .short ≡ 0 → ⊥) → (out : List ℕ) → out ≡ writtenOf (panel ls ws start) out
+  pub written-ended : (p .short ≡ 0 → ⊥) → (out : List ℕ) → out ≡ writtenPanel (panel ls ws start) out
   written-ended h out = rw (ended h)
 
   module _ (f : Fit ls) where
-    pairs-are : {cs : List Choice} {next : ℕ} → Gathers cs next p → Steps ls ws start (inUse New ls) cs next → pairs (p .numbers) (p .outcomes) ≡ written cs []
+    pairs-are : {cs : List Choice} {next : ℕ} → Gathers cs next p → Steps ls ws start (inUse New ls) cs next → pairs (p .numbers) (p .outcomes) ≡ writtenPairs cs []
     pairs-are {cs} g k = rw (g .numbers, g .outcomes) (pairs-tabled cs (panel-rises f k))
 
     -- the pairs have room where each round has two words
@@ -80,7 +80,7 @@ module _ (ls : List Lift) (ws : List ℕ) (start : ℕ) (p : Picks) (d : Picked 
           outcomes = rw (x .gathers .outcomes) (tabled-each (λ v. v ≤ 3) (λ c. c .outcome) (λ c s. s .most) (omega arith) (x .choices) r);
         }
 
-    pub written-done : p .short ≡ 0 → (out : List ℕ) → withPairs (p .numbers) (p .outcomes) out ≡ writtenOf (panel ls ws start) out
+    pub written-done : p .short ≡ 0 → (out : List ℕ) → withPairs (p .numbers) (p .outcomes) out ≡ writtenPanel (panel ls ws start) out
     written-done z out =
         let x = done z in
         rw (x .is, pairs-are (x .gathers) (x .steps), length-written (x .choices)) (sym (written-behind (x .choices) out))
@@ -92,7 +92,7 @@ pub left : {y z : Reply} (out new : List ℕ) → (y .number ≡ 0 → ⊥) → 
 left {y} out new h e = (e, rw (← e, ne-eqb (y .number) 0 h))
 
 -- and so does a panel whose words ended
-pub left-panel : (start : ℕ) (x : Panel) (out : List ℕ) → writtenOf x out ≡ unlessRefused (ofPanel start x) out (writtenOf x out)
+pub left-panel : (start : ℕ) (x : Panel) (out : List ℕ) → writtenPanel x out ≡ unlessRefused (ofPanel start x) out (writtenPanel x out)
 left-panel start (chosen cs next) out = refl
 left-panel start (short r) out = refl
 
@@ -132,7 +132,7 @@ module _ (n words start room : ℕ) where
 pub through : (ls : List Lift) (ws : List ℕ) (start : ℕ) (out : List ℕ) {n : ℕ} → n ≡ length (inUse New ls) → (start ≤ length ws) × (2 * n ≤ length out)
     → (p : Picks) → Picked (panel ls ws start) p → Fit ls → {r : Answer} {out′ : List ℕ} → Answers p n start r out out′
     → (replyOf r ≡ ofLent ls (length (inUse New ls)) ws start (length out))
-    × (out′ ≡ unlessRefused (ofLent ls (length (inUse New ls)) ws start (length out)) out (writtenOf (panel ls ws start) out))
+    × (out′ ≡ unlessRefused (ofLent ls (length (inUse New ls)) ws start (length out)) out (writtenPanel (panel ls ws start) out))
 through ls ws start out q b p d f s =
     let x = panel ls ws start in
     let a = rw q at b in
@@ -147,7 +147,7 @@ module _ (sheet ws : List ℕ) (start : ℕ) (out : List ℕ) where
   at-sheet {x} e = rw (← e) (left out _ (λ z. omega (arith, z, decided sheet .above x (sym e))) refl)
 
   pub at-fitting : {n k : ℕ} {y : Reply} {out′ : List ℕ} → fits n k ≡ verdict sheet → y ≡ ofLent (lifts sheet) k ws start (length out)
-      → out′ ≡ unlessRefused (ofLent (lifts sheet) k ws start (length out)) out (writtenOf (panel (lifts sheet) ws start) out)
+      → out′ ≡ unlessRefused (ofLent (lifts sheet) k ws start (length out)) out (writtenPanel (panel (lifts sheet) ws start) out)
       → (y ≡ reply sheet ws start (length out)) × (out′ ≡ output sheet ws start out)
   unfolding reply output
   at-fitting e f g = rw (← e) (f, g)

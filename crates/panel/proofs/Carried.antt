@@ -12,11 +12,11 @@ use Rattle.probability.specs.Among.{among}
 use Rattle.probability.specs.Sum.{totalBy}
 use Rattle.probability.proofs.Lists.{All}
 use Rattle.sheet.specs.Sheet.{mostRounds, Lift}
-use Rattle.tally.specs.Rounds.{named, inUse}
+use Rattle.tally.specs.Rounds.{liftCount, inUse}
 use Rattle.tally.specs.Law.{Fit}
 use Rattle.sheet.specs.Lift.{New}
-use Rattle.tally.proofs.Those.{those-has}
-use Rattle.selection.specs.Choice.{liftAt, Choice, byRound}
+use Rattle.tally.proofs.Ranges.{filter-has}
+use Rattle.selection.specs.Choice.{liftInRound, Choice, byRound}
 use Rattle.selection.proofs.Held.{proper}
 use Rattle.selection.proofs.Naming.{same}
 use Rattle.selection.proofs.Steps.{made, Steps, none, some}
@@ -28,7 +28,7 @@ use Rattle.selection.proofs.Choices.{Rises}
 use Rattle.panel.proofs.Tabled.{byRound-first}
 
 -- a lift's new round is named
-named-some : {l : Lift} {ls : List Lift} → List·Memᴰ l ls → 0 < named New (l .new .round) ls
+named-some : {l : Lift} {ls : List Lift} → List·Memᴰ l ls → 0 < liftCount New (l .new .round) ls
 unfolding totalBy
 named-some {l} (List·Memᴰ·head {x = x} e) = rw (eq-eqb (x .new .round) (l .new .round) (ap (λ m. m .new .round) (sym e))) (omega arith)
 named-some (List·Memᴰ·tail i) = omega (arith, named-some i)
@@ -36,7 +36,7 @@ named-some (List·Memᴰ·tail i) = omega (arith, named-some i)
 module _ {ls : List Lift} (f : Fit ls) {l : Lift} (i : List·Memᴰ l ls) where
   -- another round's choice is another lift
   other : {r : ℕ} {a : Lift} → Measured ls r a → (r ≡ l .new .round → ⊥) → eqb (a .number) (l .number) ≡ false
-  other {r} {a} m d = ne-eqb (a .number) (l .number) (λ e. d (sym (m .round) ∙ ap (λ x. x .new .round) (same (m .inside) 0 (f .listable .listed) l i e)))
+  other {r} {a} m d = ne-eqb (a .number) (l .number) (λ e. d (sym (m .round) ∙ ap (λ x. x .new .round) (same (m .inside) 0 (f .wellFormed .listed) l i e)))
 
   -- no later round chooses it
   unchosen : {ws : List ℕ} {from next : ℕ} {rs : List ℕ} {cs : List Choice} → Steps ls ws from rs cs next → All (Used ls) rs → (k : ℕ) → Rises k cs
@@ -62,7 +62,7 @@ module _ {ls : List Lift} (f : Fit ls) {l : Lift} (i : List·Memᴰ l ls) where
       v : All (Used ls) rs
       v t n = u t (List·Memᴰ·tail n)
 
-      mine : Measured ls r (liftAt r ls (s .place))
+      mine : Measured ls r (liftInRound r ls (s .place))
       mine = let used = u r (List·Memᴰ·head refl) in run-measured f (used .low) (used .high) (used .some) ws from q
 
       go : (x : Bool) → eqb r (l .new .round) ≡ x → (l .new .round ≡ r) ⊎ List·Memᴰ (l .new .round) rs
@@ -82,6 +82,6 @@ pub table-next : {ls : List Lift} → Fit ls → {ws : List ℕ} {start next : �
 table-next {ls} f k d =
     carriedOn-ext ls
     (λ l i h.
-    let p = proper 0 ls (f .listable .listed) l i in
-    let m = those-has (λ r. ltb 0 (named New r ls)) 1 mostRounds (l .new .round) (lt-ltb 0 (named New (l .new .round) ls) (named-some i)) h (omega (arith, p .new .round)) in
+    let p = proper 0 ls (f .wellFormed .listed) l i in
+    let m = filter-has (λ r. ltb 0 (liftCount New r ls)) 1 mostRounds (l .new .round) (lt-ltb 0 (liftCount New (l .new .round) ls) (named-some i)) h (omega (arith, p .new .round)) in
     table-has f i k (all-used ls) 1 d m (replicate (mostRounds + 1) 0) refl)

@@ -10,15 +10,15 @@ use Rattle.probability.specs.Pieces.{pieces}
 use Rattle.draw.specs.Draw.{largest}
 use Rattle.draw.specs.Run.{Run, finished, short as ended, run}
 use Rattle.round.specs.Choice.{Selection, answer, selected}
-use Rattle.round.specs.Rows.{lifts as liftsOfRows, rowLength}
+use Rattle.round.specs.Rows.{rowLifts as liftsOfRows, rowLength}
 use Rattle.round.specs.declared.Donors.{Donors}
 use Rattle.round.specs.declared.Held.{Held}
 use Rattle.sheet.specs.Sheet.{mostRounds, Lift}
-use Rattle.tally.specs.Rounds.{named}
+use Rattle.tally.specs.Rounds.{liftCount}
 use Rattle.sheet.specs.Lift.{New}
 use Rattle.rows.specs.declared.Layout.{Layout}
-use Rattle.tally.proofs.Those.{from, from-step, from-none}
-use Rattle.selection.specs.Choice.{heldIn, planOf, Choice, Panel, chosen, short, preceded, panelFrom, panel, byRound}
+use Rattle.tally.proofs.Ranges.{from, from-step, from-none}
+use Rattle.selection.specs.Choice.{heldOfRound, planOf, Choice, Panel, chosen, short, preceded, panelFrom, panel, byRound}
 use Rattle.selection.proofs.Steps.{made}
 use Rattle.panel.specs.Choosing.{chosenOf, stepOf, Picked}
 use Rattle.panel.specs.declared.select.Step.{Step}
@@ -47,7 +47,7 @@ byRound-one f (x ∷ cs) c xs = byRound-one f cs c (set xs (x .round) (f x))
 
 -- whether a new round has lifts
 abbrev used : List Lift → ℕ → Bool
-used ls r = ltb 0 (named New r ls)
+used ls r = ltb 0 (liftCount New r ls)
 
 abbrev zeros : List ℕ
 zeros = replicate (mostRounds + 1) 0
@@ -90,7 +90,7 @@ module _ {ls : List Lift} {rows : List ℕ} {x : Layout} {sums news ws : List �
   abbrev trial : Run Selection
   trial = run largest ws next (planOf r ls)
 
-  busy : used ls r ≡ true → y ≡ chosenOf (partOf x r rows) (answer (heldIn r ls) trial)
+  busy : used ls r ≡ true → y ≡ chosenOf (partOf x r rows) (answer (heldOfRound r ls) trial)
   busy u = e ∙ step-used d (g .low) high ws next u
 
   -- which ends short, and with it the panel
@@ -119,7 +119,7 @@ module _ {ls : List Lift} {rows : List ℕ} {x : Layout} {sums news ws : List �
       go false u = idle u .1
       go true u = ran trial (busy u)
         where
-          ran : (z : Run Selection) → y ≡ chosenOf (partOf x r rows) (answer (heldIn r ls) z) → Going ls ws start numbers outcomes next (r + 1)
+          ran : (z : Run Selection) → y ≡ chosenOf (partOf x r rows) (answer (heldOfRound r ls) z) → Going ls ws start numbers outcomes next (r + 1)
           ran (finished vs s n) q = let z : _≡_ {A = ℕ} 0 1 = cc in absurd (omega arith)
           ran ended q = let z : _≡_ {A = ℕ} 0 1 = cc in absurd (omega arith)
 
@@ -130,7 +130,7 @@ module _ {ls : List Lift} {rows : List ℕ} {x : Layout} {sums news ws : List �
       go false u = let q = idle u .0 in let z : _≡_ {A = ℕ} 0 1 = cc in absurd (omega arith)
       go true u = ran trial refl (busy u)
         where
-          ran : (z : Run Selection) → trial ≡ z → y ≡ chosenOf (partOf x r rows) (answer (heldIn r ls) z)
+          ran : (z : Run Selection) → trial ≡ z → y ≡ chosenOf (partOf x r rows) (answer (heldOfRound r ls) z)
               → Going ls ws start (set numbers r number) (set outcomes r outcome) behind (r + 1)
           ran (finished vs s n) w q =
               let k : number ≡ getD (getD (pieces rowLength (partOf x r rows)) (s .place) []) 0 0 = cc in
@@ -147,6 +147,6 @@ module _ {ls : List Lift} {rows : List ℕ} {x : Layout} {sums news ws : List �
       go false u = let q = idle u .0 in let z : _≡_ {A = ℕ} 0 1 = cc in absurd (omega arith)
       go true u = ran trial refl (busy u)
         where
-          ran : (z : Run Selection) → trial ≡ z → y ≡ chosenOf (partOf x r rows) (answer (heldIn r ls) z) → Picked (panel ls ws start) k
+          ran : (z : Run Selection) → trial ≡ z → y ≡ chosenOf (partOf x r rows) (answer (heldOfRound r ls) z) → Picked (panel ls ws start) k
           ran (finished vs s n) w q = let z : _≡_ {A = ℕ} 0 1 = cc in absurd (omega arith)
           ran ended w q = rw (stopped u w) (g .low, m)

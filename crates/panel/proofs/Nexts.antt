@@ -12,7 +12,7 @@ use Rattle.tally.specs.Verdict.{refused, fits, verdict}
 use Rattle.tally.specs.Law.{Fit}
 use Rattle.sheet.specs.Lift.{New}
 use Rattle.tally.proofs.Verdicts.{decided}
-use Rattle.selection.specs.Choice.{Panel, chosen, short, panel, ofPanel, writtenOf}
+use Rattle.selection.specs.Choice.{Panel, chosen, short, panel, ofPanel, writtenPanel}
 use Rattle.carry.specs.Next.{remaining, nextSheet, wordsNeeded}
 use Rattle.carry.specs.Reply.{ofLentNext, replyNext, outputNext, carriedTo, lentSheet}
 use Rattle.carry.proofs.Carrying.{carries}
@@ -62,7 +62,7 @@ module _ (ls : List Lift) (ws : List ℕ) (start : ℕ) (out next : List ℕ) (m
   pub through-next : 3 * m + n + 1 ≤ length next → (p : Picks) → Picked (panel ls ws start) p → Fit ls → {r : Answer} {out′ next′ : List ℕ}
       → Answers p n start r out out′ → CarriesOn p ls next next′
       → (replyOf r ≡ ofLentNext ls n ws start (length out) (length next))
-      × ((out′ ≡ unlessRefused (ofLentNext ls n ws start (length out) (length next)) out (writtenOf (panel ls ws start) out))
+      × ((out′ ≡ unlessRefused (ofLentNext ls n ws start (length out) (length next)) out (writtenPanel (panel ls ws start) out))
       × (next′ ≡ unlessRefused (ofLentNext ls n ws start (length out) (length next)) next (carriedTo (panel ls ws start) ls next)))
   through-next h p d f s q =
       let x = panel ls ws start in
@@ -79,7 +79,7 @@ module _ (sheet ws : List ℕ) (start : ℕ) (out next : List ℕ) where
   at-sheet {x} e = rw (← e) (both-left out _ next _ (λ z. omega (arith, z, decided sheet .above x (sym e))) refl)
 
   pub at-fitting : {k m : ℕ} {y : Reply} {out′ next′ : List ℕ} → fits k m ≡ verdict sheet → y ≡ ofLentNext (lifts sheet) m ws start (length out) (length next)
-      → out′ ≡ unlessRefused (ofLentNext (lifts sheet) m ws start (length out) (length next)) out (writtenOf (panel (lifts sheet) ws start) out)
+      → out′ ≡ unlessRefused (ofLentNext (lifts sheet) m ws start (length out) (length next)) out (writtenPanel (panel (lifts sheet) ws start) out)
       → next′ ≡ unlessRefused (ofLentNext (lifts sheet) m ws start (length out) (length next)) next (carriedTo (panel (lifts sheet) ws start) (lifts sheet) next)
       → (y ≡ replyNext sheet ws start (length out) (length next))
       × ((out′ ≡ outputNext sheet ws start out (length next)) × (next′ ≡ lentSheet sheet ws start (length out) next))

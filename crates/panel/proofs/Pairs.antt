@@ -28,19 +28,19 @@ put-part done part old a e l h w =
     rw (w, take-at done (drop a old) a l, drop-at done (drop a old) a l, drop-drop, n, append-assoc)
 
 -- the pairs of the rounds before r are written, and behind them lies what did
-pub record Written (ns os old out : List ℕ) (start r : ℕ) : Type 0 where
+pub record PairsWritten (ns os old out : List ℕ) (start r : ℕ) : Type 0 where
   pub done : List ℕ
   pub long : length done ≡ start
   pub kept : length out ≡ length old
   pub same : done ++ pairsFrom ns os r (mostRounds + 1 - r) ≡ pairs ns os
   pub is : out ≡ done ++ drop start old
 
-pub written-none : (ns os old : List ℕ) → Written ns os old old 0 1
+pub written-none : (ns os old : List ℕ) → PairsWritten ns os old old 0 1
 written-none ns os old = record { done = []; long = refl; kept = refl; same = refl; is = refl }
 
-module _ {ns os old out : List ℕ} {start r : ℕ} (w : Written ns os old out start r) (h : r ≤ mostRounds) where
+module _ {ns os old out : List ℕ} {start r : ℕ} (w : PairsWritten ns os old out start r) (h : r ≤ mostRounds) where
   -- a round without an outcome
-  pub written-skip : getD os r 0 ≡ 0 → Written ns os old out start (r + 1)
+  pub written-skip : getD os r 0 ≡ 0 → PairsWritten ns os old out start (r + 1)
   unfolding pairsFrom
   written-skip e =
       let n : mostRounds + 1 - r ≡ suc (mostRounds + 1 - (r + 1)) = omega arith in
@@ -69,7 +69,7 @@ module _ {ns os old out : List ℕ} {start r : ℕ} (w : Written ns os old out s
         )
 
     pub written-turn : {part out′ : List ℕ} → part ≡ pair r (getD ns r 0) (getD os r 0) → out′ ≡ putMid start (start + 2 - start) out part
-        → Written ns os old out′ (start + 2) (r + 1)
+        → PairsWritten ns os old out′ (start + 2) (r + 1)
     written-turn {part} {out′} p e =
         let long : length (w .done ++ part) ≡ start + 2 = rw (p, length-append (w .done)) (omega (arith, w .long)) in
         let is : out′ ≡ (w .done ++ part) ++ drop (start + 2) old =
@@ -83,7 +83,7 @@ module _ {ns os old out : List ℕ} {start r : ℕ} (w : Written ns os old out s
         }
 
 -- behind the last round
-pub written-end : {ns os old out : List ℕ} {start r : ℕ} → mostRounds < r → Written ns os old out start r → out ≡ withPairs ns os old
+pub written-end : {ns os old out : List ℕ} {start r : ℕ} → mostRounds < r → PairsWritten ns os old out start r → out ≡ withPairs ns os old
 unfolding pairsFrom
 written-end {ns} {os} {old} {out} {start} {r} h w =
     let n : mostRounds + 1 - r ≡ 0 = omega arith in

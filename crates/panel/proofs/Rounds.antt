@@ -24,31 +24,31 @@ use Rattle.round.specs.declared.Donors.the-variants.{None, One, Two}
 use Rattle.round.specs.declared.Held.{Held}
 use Rattle.round.specs.declared.Selected.{Selected}
 use Rattle.round.specs.declared.Lift.{Lift as RoundLift}
-use Rattle.round.specs.Rows.{liftOf, lifts as liftsOfRows, Callable, rowLength, HasSums}
+use Rattle.round.specs.Rows.{rowLift, rowLifts as liftsOfRows, Callable, rowLength, HasSums}
 use Rattle.round.specs.declared.Sums.{Sums}
 use Rattle.sheet.specs.Sheet.{mostLifts, mostRounds, Lift}
-use Rattle.tally.specs.Rounds.{named, sumOf, sends, donors, donorNumber, ofRound, heldAt}
+use Rattle.tally.specs.Rounds.{liftCount, sumOf, sends, donors, donorNumber, ofRound, heldAt}
 use Rattle.tally.specs.Tables.{table}
 use Rattle.rows.specs.SetBits.{noBit}
-use Rattle.rows.specs.Rows.{below, rowOf, placeIn, Laid}
+use Rattle.rows.specs.Rows.{liftsBelow, rowOf, placeIn, Laid}
 use Rattle.tally.specs.Law.{Fit}
 use Rattle.sheet.specs.Lift.{Old, New}
 use Rattle.rows.specs.declared.Layout.{Layout}
 use Rattle.tally.proofs.Tables.{getD-tabulate}
 use Rattle.rows.proofs.Placing.{below-le, below-suc, named-length}
-use Rattle.selection.specs.Choice.{withSums, donorsOf, inRound, liftsOf, heldAmong, heldIn, planOf, nobody, liftAt}
+use Rattle.selection.specs.Choice.{withSums, donorsOf, inRound, liftsOf, heldAmong, heldOfRound, planOf, noLift, liftInRound}
 use Rattle.selection.proofs.Held.{held-exactly}
 use Rattle.selection.proofs.Sums.{U-by-number}
 use Rattle.selection.proofs.RoundsFit.{Senders, none, one, two, senders, S-round, round-fits, round-bounded, round-stands}
 use Rattle.selection.proofs.Selections.{sends-named}
-use Rattle.panel.specs.Choosing.{present, chosenOf, stepOf}
+use Rattle.panel.specs.Choosing.{donorsBy, chosenOf, stepOf}
 use Rattle.panel.specs.declared.select.Step.the-variants.{Passed}
 
 -- ---- the lifts of rows
 
 -- the rows of a round's lifts are its lifts
 rows-lifts : (whole : List Lift) (r : ℕ) (ls : List Lift)
-    → map liftOf (map (rowOf whole) (ofRound r ls))
+    → map rowLift (map (rowOf whole) (ofRound r ls))
     ≡ map (inRound (donorNumber (donors r whole))) (ofRound r ls)
 unfolding ofRound
 rows-lifts whole r [] = refl
@@ -57,8 +57,8 @@ rows-lifts whole r (l ∷ ls) = go (eqb (l .new .round) r) refl (rows-lifts whol
     of : Lift → RoundLift
     of = inRound (donorNumber (donors r whole))
 
-    go : (t : Bool) → eqb (l .new .round) r ≡ t → map liftOf (map (rowOf whole) (ofRound r ls)) ≡ map of (ofRound r ls)
-        → map liftOf (map (rowOf whole) (cond t (l ∷ ofRound r ls) (ofRound r ls))) ≡ map of (cond t (l ∷ ofRound r ls) (ofRound r ls))
+    go : (t : Bool) → eqb (l .new .round) r ≡ t → map rowLift (map (rowOf whole) (ofRound r ls)) ≡ map of (ofRound r ls)
+        → map rowLift (map (rowOf whole) (cond t (l ∷ ofRound r ls) (ofRound r ls))) ≡ map of (cond t (l ∷ ofRound r ls) (ofRound r ls))
     go true q ih = rw (eqb-true (l .new .round) r q, ih)
     go false q ih = ih
 
@@ -82,7 +82,7 @@ partOf x r rows = take (rowLength * begins x (r + 1) - rowLength * begins x r) (
 
 -- its donors, with their old sums, and held lifts
 abbrev donorsAt : Layout → ℕ → List ℕ
-donorsAt x r = present (getD (x .donors) (2 * r) 0) (getD (x .donors) (2 * r + 1) 0)
+donorsAt x r = donorsBy (getD (x .donors) (2 * r) 0) (getD (x .donors) (2 * r + 1) 0)
 
 abbrev pub donorsIn : Layout → List ℕ → ℕ → Donors
 donorsIn x sums r = withSums (λ t. getD sums t 0) (donorsAt x r)
@@ -90,7 +90,7 @@ donorsIn x sums r = withSums (λ t. getD sums t 0) (donorsAt x r)
 abbrev pub marksIn : Layout → ℕ → Held
 marksIn x r = heldAmong (λ t. placeIn (begins x r) (begins x (r + 1)) (getD (x .seats) t 0)) (donorsAt x r)
 
-numbers-are : (ls us : List Lift) (i : ℕ) → getD (getD (map (rowOf ls) us) i []) 0 0 ≡ getD us i nobody .number
+numbers-are : (ls us : List Lift) (i : ℕ) → getD (getD (map (rowOf ls) us) i []) 0 0 ≡ getD us i noLift .number
 numbers-are ls [] i = refl
 numbers-are ls (u ∷ us) zero = refl
 numbers-are ls (u ∷ us) (suc i) = numbers-are ls us i
@@ -101,14 +101,14 @@ has-sums (One T) us e = rw e (refl, refl)
 has-sums (Two T₁ T₂) us e = rw e (refl, refl, refl)
 
 module _ {ls : List Lift} {rows : List ℕ} {x : Layout} {sums news : List ℕ} (d : Lent ls rows x sums news) {r : ℕ} (low : 1 ≤ r) (high : r ≤ mostRounds) where
-  begin : begins x r ≡ below r ls
-  begin = ap (λ t. getD t r 0) (d .laid .starts) ∙ getD-tabulate (mostRounds + 2) (λ t. below t ls) r (omega arith)
+  begin : begins x r ≡ liftsBelow r ls
+  begin = ap (λ t. getD t r 0) (d .laid .starts) ∙ getD-tabulate (mostRounds + 2) (λ t. liftsBelow t ls) r (omega arith)
 
-  end : begins x (r + 1) ≡ below (suc r) ls
-  end = ap (λ t. getD t (r + 1) 0) (d .laid .starts) ∙ getD-tabulate (mostRounds + 2) (λ t. below t ls) (r + 1) (omega arith) ∙ ap (λ t. below t ls) (add-one r)
+  end : begins x (r + 1) ≡ liftsBelow (suc r) ls
+  end = ap (λ t. getD t (r + 1) 0) (d .laid .starts) ∙ getD-tabulate (mostRounds + 2) (λ t. liftsBelow t ls) (r + 1) (omega arith) ∙ ap (λ t. liftsBelow t ls) (add-one r)
 
   -- it ends behind its lifts, inside the rows
-  pub ends : begins x (r + 1) ≡ begins x r + named New r ls
+  pub ends : begins x (r + 1) ≡ begins x r + liftCount New r ls
   ends = end ∙ sym (below-suc r ls) ∙ ap₂ _+_ (sym begin) (sym (named-length r ls))
 
   pub inside : begins x (r + 1) ≤ length ls
@@ -119,7 +119,7 @@ module _ {ls : List Lift} {rows : List ℕ} {x : Layout} {sums news : List ℕ} 
   rises = omega (arith, ends)
 
   pub few : begins x (r + 1) ≤ mostLifts
-  few = omega (arith, inside, d .fit .listable .few)
+  few = omega (arith, inside, d .fit .wellFormed .few)
 
   pub part-end : rowLength * begins x (r + 1) ≤ length rows
   part-end = omega (arith, inside, d .long)
@@ -133,12 +133,12 @@ module _ {ls : List Lift} {rows : List ℕ} {x : Layout} {sums news : List ℕ} 
       pieces-part rowLength (begins x r) (begins x (r + 1)) rows (omega arith) (omega (arith, ends)) (omega (arith, many, inside))
       ∙ rw (begin, end) (d .laid .rows .parts r high)
 
-  pub part-length : length (partOf x r rows) ≡ rowLength * named New r ls
+  pub part-length : length (partOf x r rows) ≡ rowLength * liftCount New r ls
   part-length = length-take-le (rowLength * begins x (r + 1) - rowLength * begins x r) (drop (rowLength * begins x r) rows) (rw (length-drop (rowLength * begins x r) rows) (omega (arith, d .long, ends, inside))) ∙ omega (arith, ends)
 
   -- the numbers of its lifts
-  pub number-is : (i : ℕ) → getD (getD (pieces rowLength (partOf x r rows)) i []) 0 0 ≡ liftAt r ls i .number
-  unfolding liftAt
+  pub number-is : (i : ℕ) → getD (getD (pieces rowLength (partOf x r rows)) i []) 0 0 ≡ liftInRound r ls i .number
+  unfolding liftInRound
   number-is i = rw part-pieces (numbers-are ls (ofRound r ls) i)
 
   pub lifts-are : liftsOfRows (partOf x r rows) ≡ liftsOf r ls
@@ -158,7 +158,7 @@ module _ {ls : List Lift} {rows : List ℕ} {x : Layout} {sums news : List ℕ} 
   donors-told : donorsAt x r ≡ donors r ls
   donors-told = rw (d .laid .donors .first r high, d .laid .donors .second r high) (go (donors r ls) (senders (d .fit) low high))
     where
-      go : (ds : List ℕ) → Senders r ls ds → present (getD ds 0 noBit) (getD ds 1 noBit) ≡ ds
+      go : (ds : List ℕ) → Senders r ls ds → donorsBy (getD ds 0 noBit) (getD ds 1 noBit) ≡ ds
       go [] none = refl
       go (t ∷ []) (one s l h) = rw (le-ltb mostRounds t h)
       go (t ∷ u ∷ []) (two s v l m h) = rw (le-ltb mostRounds t (omega arith), le-ltb mostRounds u h)
@@ -173,16 +173,16 @@ module _ {ls : List Lift} {rows : List ℕ} {x : Layout} {sums news : List ℕ} 
       go (t ∷ u ∷ []) (two s v l m h) = ap₂ Two (sum-is t (omega arith)) (sum-is u h)
 
   -- a donor has one held lift, which stands at its seat
-  seat-is : (t : ℕ) → sends t r ls ≡ true → 1 ≤ t → t ≤ mostRounds → placeIn (below r ls) (below (suc r) ls) (getD (x .seats) t 0) ≡ heldAt t (ofRound r ls)
+  seat-is : (t : ℕ) → sends t r ls ≡ true → 1 ≤ t → t ≤ mostRounds → placeIn (liftsBelow r ls) (liftsBelow (suc r) ls) (getD (x .seats) t 0) ≡ heldAt t (ofRound r ls)
   seat-is t s l h =
-      d .laid .seats .seat t h (held-exactly ls t (d .fit .rounds .held t l h) ∙ ap indicator (lt-ltb 0 (named Old t ls) (sends-named t r ls s))) r high
+      d .laid .seats .seat t h (held-exactly ls t (d .fit .rounds .held t l h) ∙ ap indicator (lt-ltb 0 (liftCount Old t ls) (sends-named t r ls s))) r high
 
-  pub marks-are : marksIn x r ≡ heldIn r ls
-  unfolding heldIn
+  pub marks-are : marksIn x r ≡ heldOfRound r ls
+  unfolding heldOfRound
   marks-are = rw (donors-told, begin, end) (go (donors r ls) (senders (d .fit) low high))
     where
       go : (ds : List ℕ) → Senders r ls ds
-          → heldAmong (λ t. placeIn (below r ls) (below (suc r) ls) (getD (x .seats) t 0)) ds ≡ heldAmong (λ t. heldAt t (ofRound r ls)) ds
+          → heldAmong (λ t. placeIn (liftsBelow r ls) (liftsBelow (suc r) ls) (getD (x .seats) t 0)) ds ≡ heldAmong (λ t. heldAt t (ofRound r ls)) ds
       go [] none = refl
       go (t ∷ []) (one s l h) = ap (λ y. heldOf y elsewhere) (seat-is t s l h)
       go (t ∷ u ∷ []) (two s v l m h) = ap₂ heldOf (seat-is t s l (omega arith)) (seat-is u v (omega arith) h)
@@ -193,12 +193,12 @@ module _ {ls : List Lift} {rows : List ℕ} {x : Layout} {sums news : List ℕ} 
       (record { fitting = round-fits (d .fit) low high (omega (arith, part-length)); bounded = round-bounded (d .fit) low high; stands = round-stands (d .fit) low high })
 
   -- its choice: none without lifts, else that of its plan
-  pub step-passed : (s : Selected) → ltb 0 (named New r ls) ≡ false → stepOf (partOf x r rows) s ≡ Passed
-  step-passed s e = rw (eq-eqb (length (partOf x r rows)) 0 (omega (arith, part-length, ltb-false 0 (named New r ls) e)))
+  pub step-passed : (s : Selected) → ltb 0 (liftCount New r ls) ≡ false → stepOf (partOf x r rows) s ≡ Passed
+  step-passed s e = rw (eq-eqb (length (partOf x r rows)) 0 (omega (arith, part-length, ltb-false 0 (liftCount New r ls) e)))
 
-  pub step-used : (ws : List ℕ) (next : ℕ) → ltb 0 (named New r ls) ≡ true
+  pub step-used : (ws : List ℕ) (next : ℕ) → ltb 0 (liftCount New r ls) ≡ true
       → stepOf (partOf x r rows) (selected (donorsIn x sums r) (liftsOfRows (partOf x r rows)) (marksIn x r) ws next)
-      ≡ chosenOf (partOf x r rows) (answer (heldIn r ls) (run largest ws next (planOf r ls)))
+      ≡ chosenOf (partOf x r rows) (answer (heldOfRound r ls) (run largest ws next (planOf r ls)))
   unfolding planOf
   step-used ws next e =
-      rw (donors-are, lifts-are, marks-are, ne-eqb (length (partOf x r rows)) 0 (λ z. omega (arith, part-length, ltb-true 0 (named New r ls) e)))
+      rw (donors-are, lifts-are, marks-are, ne-eqb (length (partOf x r rows)) 0 (λ z. omega (arith, part-length, ltb-true 0 (liftCount New r ls) e)))

@@ -11,7 +11,7 @@ use lib.Seq.{getD-set-same, getD-set-other, drop-drop}
 use borrow.Author.Tests.{ne-eqb, eqb-true, eqb-false}
 use Rattle.round.specs.Choice.{outcome}
 use Rattle.sheet.specs.Sheet.{mostRounds}
-use Rattle.selection.specs.Choice.{Choice, byRound, pair, written}
+use Rattle.selection.specs.Choice.{Choice, byRound, pair, writtenPairs}
 use Rattle.selection.proofs.Choices.{Sound, Rises}
 use Rattle.panel.specs.Choosing.{pairsFrom, pairs}
 
@@ -80,8 +80,8 @@ clear-set {r} {xs} {ys} v w k =
 
 -- the pairs of the tables are those of the choices
 pairs-byRound : (n r : ℕ) → r + n ≡ mostRounds + 1 → (cs : List Choice) → Rises r cs → (xs ys : List ℕ) → Clear r xs ys
-    → pairsFrom (byRound (λ c. c .number) cs xs) (byRound (λ c. c .outcome) cs ys) r n ≡ written cs []
-unfolding pairsFrom written byRound
+    → pairsFrom (byRound (λ c. c .number) cs xs) (byRound (λ c. c .outcome) cs ys) r n ≡ writtenPairs cs []
+unfolding pairsFrom writtenPairs byRound
 pairs-byRound zero r h [] d xs ys k = refl
 pairs-byRound zero r h (c ∷ cs) d xs ys k = absurd (omega (arith, d .0, d .1 .upto))
 pairs-byRound (suc n) r h [] d xs ys k =
@@ -95,13 +95,13 @@ pairs-byRound (suc n) r h (c ∷ cs) d xs ys k = go (eqb (c .round) r) refl (pai
     os = byRound (λ c. c .outcome) (c ∷ cs) ys
 
     go : (t : Bool) → eqb (c .round) r ≡ t
-        → ((cs : List Choice) → Rises (suc r) cs → (xs ys : List ℕ) → Clear (suc r) xs ys → pairsFrom (byRound (λ c. c .number) cs xs) (byRound (λ c. c .outcome) cs ys) (suc r) n ≡ written cs [])
-        → cond (eqb (getD os r 0) 0) [] (pair r (getD ns r 0) (getD os r 0)) ++ pairsFrom ns os (suc r) n ≡ written (c ∷ cs) []
+        → ((cs : List Choice) → Rises (suc r) cs → (xs ys : List ℕ) → Clear (suc r) xs ys → pairsFrom (byRound (λ c. c .number) cs xs) (byRound (λ c. c .outcome) cs ys) (suc r) n ≡ writtenPairs cs [])
+        → cond (eqb (getD os r 0) 0) [] (pair r (getD ns r 0) (getD os r 0)) ++ pairsFrom ns os (suc r) n ≡ writtenPairs (c ∷ cs) []
     go true e ih =
         let f : c .round ≡ r = eqb-true (c .round) r e in
         let x : getD ns r 0 ≡ c .number = rw (← f) (byRound-first (λ c. c .number) c cs (d .2) xs (omega (arith, k .numbers, d .1 .upto))) in
         let y : getD os r 0 ≡ c .outcome = rw (← f) (byRound-first (λ c. c .outcome) c cs (d .2) ys (omega (arith, k .outcomes, d .1 .upto))) in
-        let z : pairsFrom ns os (suc r) n ≡ written cs [] = rw f (ih cs (rw (← f) (d .2)) (set xs r (c .number)) (set ys r (c .outcome)) (clear-set (c .number) (c .outcome) k)) in
+        let z : pairsFrom ns os (suc r) n ≡ writtenPairs cs [] = rw f (ih cs (rw (← f) (d .2)) (set xs r (c .number)) (set ys r (c .outcome)) (clear-set (c .number) (c .outcome) k)) in
         rw (x, y, ne-eqb (c .outcome) 0 (λ q. omega (arith, q, d .1 .some)), z, f)
     go false e ih =
         let f = eqb-false (c .round) r e in
@@ -111,7 +111,7 @@ pairs-byRound (suc n) r h (c ∷ cs) d xs ys k = go (eqb (c .round) r) refl (pai
 
 -- and so they are where there was none at first
 pub pairs-tabled : (cs : List Choice) → Rises 1 cs
-    → pairs (byRound (λ c. c .number) cs (replicate (mostRounds + 1) 0)) (byRound (λ c. c .outcome) cs (replicate (mostRounds + 1) 0)) ≡ written cs []
+    → pairs (byRound (λ c. c .number) cs (replicate (mostRounds + 1) 0)) (byRound (λ c. c .outcome) cs (replicate (mostRounds + 1) 0)) ≡ writtenPairs cs []
 pairs-tabled cs d =
     pairs-byRound mostRounds 1 (omega arith) cs d (replicate (mostRounds + 1) 0) (replicate (mostRounds + 1) 0)
     (record { numbers = refl; outcomes = refl; none = λ i l. nothing (mostRounds + 1) i })
@@ -119,14 +119,14 @@ pairs-tabled cs d =
 -- ---- what is written
 
 -- two words for each choice
-pub length-written : (cs : List Choice) → length (written cs []) ≡ 2 * length cs
-unfolding written
+pub length-written : (cs : List Choice) → length (writtenPairs cs []) ≡ 2 * length cs
+unfolding writtenPairs
 length-written [] = refl
 length-written (c ∷ cs) = omega (arith, length-written cs)
 
 -- the pairs, and what lay behind them
-pub written-behind : (cs : List Choice) (out : List ℕ) → written cs out ≡ written cs [] ++ drop (2 * length cs) out
-unfolding written
+pub written-behind : (cs : List Choice) (out : List ℕ) → writtenPairs cs out ≡ writtenPairs cs [] ++ drop (2 * length cs) out
+unfolding writtenPairs
 written-behind [] out = refl
 written-behind (c ∷ cs) out =
     let n : 2 + 2 * length cs ≡ 2 * suc (length cs) = omega arith in

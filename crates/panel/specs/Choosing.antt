@@ -19,7 +19,7 @@ use Rattle.tally.specs.Law.{Fit}
 use Rattle.sheet.specs.Lift.{New}
 use Rattle.tally.specs.declared.Found.{Found}
 use Rattle.tally.specs.declared.Found.the-variants.{At, Nothing}
-use Rattle.selection.specs.Choice.{Choice, Panel, chosen, short, panel, byRound, ofPanel, pair, writtenOf}
+use Rattle.selection.specs.Choice.{Choice, Panel, chosen, short, panel, byRound, ofPanel, pair, writtenPanel}
 use Rattle.carry.specs.Next.{carriedOn, inTable}
 use Rattle.carry.specs.Reply.{carriedTo}
 use Rattle.panel.specs.declared.select.Step.{Step}
@@ -29,8 +29,8 @@ use Rattle.panel.specs.declared.Picks.{Picks}
 -- ---- one round
 
 -- the donors that two numbers tell; one above the highest round's is none
-abbrev pub present : (first second : ℕ) → List ℕ
-present first second = cond (ltb mostRounds first) [] (cond (ltb mostRounds second) (first ∷ []) (first ∷ second ∷ []))
+abbrev pub donorsBy : (first second : ℕ) → List ℕ
+donorsBy first second = cond (ltb mostRounds first) [] (cond (ltb mostRounds second) (first ∷ []) (first ∷ second ∷ []))
 
 -- a place that was looked for
 abbrev pub initialOf : Found → Initial
@@ -86,7 +86,7 @@ pub record PairsFit (ns os : List ℕ) (room : ℕ) : Type 0 where
 -- choices, of lifts that fit
 pub record Answers (p : Picks) (rounds start : ℕ) (r : Answer) (before after : List ℕ) : Type 0 where
   pub replies : (ls : List Lift) (ws : List ℕ) → Picked (panel ls ws start) p → rounds ≡ length (inUse New ls) → replyOf r ≡ ofPanel start (panel ls ws start)
-  pub writes : (ls : List Lift) (ws : List ℕ) → Picked (panel ls ws start) p → Fit ls → after ≡ writtenOf (panel ls ws start) before
+  pub writes : (ls : List Lift) (ws : List ℕ) → Picked (panel ls ws start) p → Fit ls → after ≡ writtenPanel (panel ls ws start) before
 
 -- ---- next quarter's sheet
 

@@ -10,7 +10,7 @@ ghost use Rattle.sheet.specs.Lift.{New};
 ghost use Rattle.tally.specs.Rounds.{inUse};
 ghost use Rattle.tally.specs.Tables.{Tabled};
 ghost use Rattle.tally.specs.Law.{Fitting};
-ghost use Rattle.selection.specs.Choice.{panel as panelOf, unlessLacking, ofLent, writtenOf, reply, output};
+ghost use Rattle.selection.specs.Choice.{panel as panelOf, unlessLacking, ofLent, writtenPanel, reply, output};
 ghost use Rattle.selection.specs.Fair.{Fair};
 ghost use Rattle.carry.specs.Next.{remaining};
 ghost use Rattle.carry.specs.Reply.{ofLentNext, replyNext, outputNext, carriedTo, lentSheet};
@@ -56,7 +56,7 @@ fn choose_fitting(sheet: &[u32], t: Tallies, words: &[u64], start: usize, out: &
     requires { ⌜ Fitting (now sheet) ⌝ }
     requires { ⌜ Tabled (liftsOfSheet (now sheet)) t ⌝ }
     ensures { λ r. ⌜ replyOf r ≡ ofLent (liftsOfSheet (now (sheet .entry))) (length (inUse New (liftsOfSheet (now (sheet .entry))))) (now (words .entry)) start (length (now (out .entry))) ⌝ }
-    ensures { λ _. ⌜ now (out .exit) ≡ unlessRefused (ofLent (liftsOfSheet (now (sheet .entry))) (length (inUse New (liftsOfSheet (now (sheet .entry))))) (now (words .entry)) start (length (now (out .entry)))) (now (out .entry)) (writtenOf (panelOf (liftsOfSheet (now (sheet .entry))) (now (words .entry)) start) (now (out .entry))) ⌝ }
+    ensures { λ _. ⌜ now (out .exit) ≡ unlessRefused (ofLent (liftsOfSheet (now (sheet .entry))) (length (inUse New (liftsOfSheet (now (sheet .entry))))) (now (words .entry)) start (length (now (out .entry)))) (now (out .entry)) (writtenPanel (panelOf (liftsOfSheet (now (sheet .entry))) (now (words .entry)) start) (now (out .entry))) ⌝ }
 {
     let rounds = tally::in_use(&t.new_lifts);
     let lack = lacking(rounds, words.len(), start, out.len());
@@ -108,7 +108,7 @@ fn choose_next_fitting(
     requires { ⌜ Fitting (now sheet) ⌝ }
     requires { ⌜ Tabled (liftsOfSheet (now sheet)) t ⌝ }
     ensures { λ r. ⌜ replyOf r ≡ ofLentNext (liftsOfSheet (now (sheet .entry))) (length (inUse New (liftsOfSheet (now (sheet .entry))))) (now (words .entry)) start (length (now (out .entry))) (length (now (next .entry))) ⌝ }
-    ensures { λ _. ⌜ now (out .exit) ≡ unlessRefused (ofLentNext (liftsOfSheet (now (sheet .entry))) (length (inUse New (liftsOfSheet (now (sheet .entry))))) (now (words .entry)) start (length (now (out .entry))) (length (now (next .entry)))) (now (out .entry)) (writtenOf (panelOf (liftsOfSheet (now (sheet .entry))) (now (words .entry)) start) (now (out .entry))) ⌝ }
+    ensures { λ _. ⌜ now (out .exit) ≡ unlessRefused (ofLentNext (liftsOfSheet (now (sheet .entry))) (length (inUse New (liftsOfSheet (now (sheet .entry))))) (now (words .entry)) start (length (now (out .entry))) (length (now (next .entry)))) (now (out .entry)) (writtenPanel (panelOf (liftsOfSheet (now (sheet .entry))) (now (words .entry)) start) (now (out .entry))) ⌝ }
     ensures { λ _. ⌜ now (next .exit) ≡ unlessRefused (ofLentNext (liftsOfSheet (now (sheet .entry))) (length (inUse New (liftsOfSheet (now (sheet .entry))))) (now (words .entry)) start (length (now (out .entry))) (length (now (next .entry)))) (now (next .entry)) (carriedTo (panelOf (liftsOfSheet (now (sheet .entry))) (now (words .entry)) start) (liftsOfSheet (now (sheet .entry))) (now (next .entry))) ⌝ }
 {
     let rounds = tally::in_use(&t.new_lifts);

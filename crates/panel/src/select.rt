@@ -6,13 +6,13 @@ ghost use lib.ListN.{length, getD};
 ghost use Rattle.probability.specs.Pieces.{pieces};
 ghost use Rattle.round.specs.Choice.{selected};
 ghost use Rattle.round.specs.Share.{heldOf};
-ghost use Rattle.round.specs.Rows.{rowLength, lifts as liftsOfRows, Callable, HasSums};
+ghost use Rattle.round.specs.Rows.{rowLength, rowLifts as liftsOfRows, Callable, HasSums};
 ghost use Rattle.sheet.specs.Sheet.{mostRounds, lifts as liftsOfSheet};
 ghost use Rattle.tally.specs.Tables.{Tabled};
 ghost use Rattle.tally.specs.Law.{Fitting};
 ghost use Rattle.rows.specs.Rows.{placeIn};
 ghost use Rattle.selection.specs.Choice.{withSums, heldAmong, panel as panelOf};
-ghost use Rattle.panel.specs.Choosing.{present, initialOf, stepOf, Picked};
+ghost use Rattle.panel.specs.Choosing.{donorsBy, initialOf, stepOf, Picked};
 use crate::Picks;
 use round::Donors;
 use round::Held;
@@ -35,7 +35,7 @@ enum Step {
 
 // The donors with their old sums, from the first and the second of them.
 fn with_sums(first: u64, second: u64, sums: &[u64; Sheet::TABLE]) -> Donors
-    ensures { λ r. ⌜ r ≡ withSums (λ t. getD (now (sums .entry)) t 0) (present first second) ⌝ }
+    ensures { λ r. ⌜ r ≡ withSums (λ t. getD (now (sums .entry)) t 0) (donorsBy first second) ⌝ }
 {
     if first > Sheet::MOST_ROUNDS as u64 {
         return Donors::None;
@@ -77,7 +77,7 @@ fn held_of(a: Found, b: Found) -> Held
 
 // The held lifts in that round, from the first and the second of its donors.
 fn held_in(first: u64, second: u64, seats: &[u64; Sheet::TABLE], a: u64, e: u64) -> Held
-    ensures { λ r. ⌜ r ≡ heldAmong (λ t. placeIn a e (getD (now (seats .entry)) t 0)) (present first second) ⌝ }
+    ensures { λ r. ⌜ r ≡ heldAmong (λ t. placeIn a e (getD (now (seats .entry)) t 0)) (donorsBy first second) ⌝ }
 {
     if first > Sheet::MOST_ROUNDS as u64 {
         return Held::Neither;

@@ -10,7 +10,7 @@ use lib.Dec.{eqb}
 use Rattle.probability.specs.Sum.{over, Σ, total, indicator}
 use Rattle.probability.specs.Interval.{pick}
 use Rattle.probability.specs.Fraction.{Fraction, _//_, _⊕_, _⊗_, _≈_, _≲_, sum, sumOver}
-use Rattle.probability.specs.Plan.{Plan, done, draw, after, Every, Drawable, Path, drew, paths, weight, mass, mean, Weighed}
+use Rattle.probability.specs.Plan.{Plan, done, draw, bind, Every, Drawable, Path, extendPath, paths, weight, mass, mean, Weighed}
 use Rattle.probability.proofs.Sums.{over-related, over-ext, Σ-const}
 use Rattle.probability.proofs.Intervals.{pick-here, pick-beyond, intervals}
 use Rattle.probability.proofs.Fractions.{≈-refl, ≈-sym, ≈-trans, ≈-≲, ⊕-≈, ⊗-≈, sumOver-++, sumOver-map, sumOver-part, sum-≈, sum-cut, sum-const, sum-part, sum-same, sum-≲, sum-mix, sum-one}
@@ -23,16 +23,16 @@ weight-over t n f =
     over-related (λ xs q. weight t xs ≡ q) _++_ [] _⊕_ (0 // 1) refl (λ a x b y p q. sumOver-++ a x _ ∙ ap₂ _⊕_ p q) n (λ i l. refl)
 
 weight-drew : {A : Type 0} (t : A → Bool) (b v : ℕ) (ps : List (Path A)) → 0 < b → 0 < weight t ps .den
-    → weight t (map (drew b v) ps) ≈ 1 // b ⊗ weight t ps
+    → weight t (map (extendPath b v) ps) ≈ 1 // b ⊗ weight t ps
 unfolding weight
-weight-drew t b v ps l h = rw (sumOver-map (drew b v) ps _) (sumOver-part (1 // b) l _ _ (λ p. ap (λ n. n // (b * p .bounds)) (omega arith)) ps h)
+weight-drew t b v ps l h = rw (sumOver-map (extendPath b v) ps _) (sumOver-part (1 // b) l _ _ (λ p. ap (λ n. n // (b * p .bounds)) (omega arith)) ps h)
 
 agree : {A : Type 0} (t : A → Bool) (p : Plan A) → Drawable p → weight t (paths p) ≈ mass t p
 unfolding weight sumOver paths mass mean Every
 agree t (done a) d = record { cross = omega arith; left = omega arith; right = omega arith }
 agree t (draw b k) d =
     let r : (v : ℕ) → v < b → weight t (paths (k v)) ≈ mass t (k v) = λ v l. agree t (k v) (d .1 v l) in
-    rw (weight-over t b (λ v. map (drew b v) (paths (k v))))
+    rw (weight-over t b (λ v. map (extendPath b v) (paths (k v))))
     (≈-trans (sum-≈ b (λ v l. ≈-trans (weight-drew t b v (paths (k v)) (d .0) (r v l .left)) (⊗-≈ (≈-refl {q = 1 // b} (d .0)) (r v l))))
     (sum-part b (1 // b) (λ v. mass t (k v)) (d .0) (λ v l. r v l .right)))
 
@@ -74,13 +74,13 @@ weighed t p d = record {
 
 -- ---- one plan after another
 
-pub mass-after : {A B : Type 0} (t : B → Bool) (p : Plan A) (k : A → Plan B) → mass t (after p k) ≡ mean (λ a. mass t (k a)) p
-unfolding after mean mass
+pub mass-after : {A B : Type 0} (t : B → Bool) (p : Plan A) (k : A → Plan B) → mass t (bind p k) ≡ mean (λ a. mass t (k a)) p
+unfolding bind mean mass
 mass-after t (done a) k = refl
 mass-after t (draw b f) k = ap (λ g. 1 // b ⊗ sum b g) (fun-ext (λ v. mass-after t (f v) k))
 
-pub every-after : {A B : Type 0} (P : A → Type 0) (Q : B → Type 0) (p : Plan A) (k : A → Plan B) → Every P p → ((a : A) → P a → Every Q (k a)) → Every Q (after p k)
-unfolding Every after
+pub every-after : {A B : Type 0} (P : A → Type 0) (Q : B → Type 0) (p : Plan A) (k : A → Plan B) → Every P p → ((a : A) → P a → Every Q (k a)) → Every Q (bind p k)
+unfolding Every bind
 every-after P Q (done a) k d h = h a d
 every-after P Q (draw b f) k d h = (d .0, λ v l. every-after P Q (f v) k (d .1 v l) h)
 

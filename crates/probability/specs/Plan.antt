@@ -11,9 +11,9 @@ pub data Plan (A : Type 0) : Type 0 where
   draw : (bound : ℕ) → (ℕ → Plan A) → Plan A
 
 -- one plan after another: the second depends on the first one's result
-unfoldable pub after : {A B : Type 0} → Plan A → (A → Plan B) → Plan B
-after (done a) k = k a
-after (draw b f) k = draw b (λ v. after (f v) k)
+unfoldable pub bind : {A B : Type 0} → Plan A → (A → Plan B) → Plan B
+bind (done a) k = k a
+bind (draw b f) k = draw b (λ v. bind (f v) k)
 
 -- every draw has a value, and every result is such
 unfoldable pub Every : {A : Type 0} → (A → Type 0) → Plan A → Type 0
@@ -25,10 +25,10 @@ abbrev pub Drawable : {A : Type 0} → Plan A → Type 0
 Drawable p = Every (λ _. Unit {0}) p
 
 -- no path makes more than n draws
-unfoldable pub Within : {A : Type 0} → ℕ → Plan A → Type 0
-Within n (done a) = Unit {0}
-Within zero (draw b k) = ⊥
-Within (suc n) (draw b k) = (v : ℕ) → v < b → Within n (k v)
+unfoldable pub DrawsAtMost : {A : Type 0} → ℕ → Plan A → Type 0
+DrawsAtMost n (done a) = Unit {0}
+DrawsAtMost zero (draw b k) = ⊥
+DrawsAtMost (suc n) (draw b k) = (v : ℕ) → v < b → DrawsAtMost n (k v)
 
 -- a path through a plan (the document's "way"): the values drawn, the product of the bounds met, the result
 pub record Path (A : Type 0) : Type 0 where
@@ -37,13 +37,13 @@ pub record Path (A : Type 0) : Type 0 where
   pub result : A
 
 -- a path that first draws v below b
-abbrev pub drew : {A : Type 0} → ℕ → ℕ → Path A → Path A
-drew b v p = record { values = v ∷ p .values; bounds = b * p .bounds; result = p .result }
+abbrev pub extendPath : {A : Type 0} → ℕ → ℕ → Path A → Path A
+extendPath b v p = record { values = v ∷ p .values; bounds = b * p .bounds; result = p .result }
 
 -- all paths through a plan
 unfoldable pub paths : {A : Type 0} → Plan A → List (Path A)
 paths (done a) = record { values = []; bounds = 1; result = a } ∷ []
-paths (draw b k) = over _++_ [] b (λ v. map (drew b v) (paths (k v)))
+paths (draw b k) = over _++_ [] b (λ v. map (extendPath b v) (paths (k v)))
 
 -- what the paths weigh together whose result passes the test: each weighs 1 over the product of the bounds that it met
 unfoldable pub weight : {A : Type 0} → (A → Bool) → List (Path A) → Fraction

@@ -12,9 +12,9 @@ use Rattle.probability.proofs.Lists.{All}
 use Rattle.probability.proofs.Pieces.{length-pieces, piece-element, pieces-more}
 use Rattle.sheet.specs.Sheet.{payload, placeOf}
 use Rattle.sheet.proofs.Trips.{payload-word}
-use Rattle.selection.specs.Choice.{Choice, roundWord, pairOf, written}
+use Rattle.selection.specs.Choice.{Choice, roundWord, pairOf, writtenPairs}
 use Rattle.selection.proofs.Choices.{Sound}
-use Rattle.report.specs.Report.{line, lines, pairLine, pairLines}
+use Rattle.report.specs.Report.{choiceLine, choiceLines, pairLine, pairLines}
 
 -- the lines from pair k on
 unfoldable pub linesFrom : List ℕ → ℕ → List ℕ
@@ -22,7 +22,7 @@ linesFrom ws k = flatMap pairLine (drop k (pieces 2 ws))
 
 -- are its line and those behind it
 pub left-pair : (ws : List ℕ) (k : ℕ) {round number outcome : ℕ} → k < length ws / 2 → round ≡ placeOf (getD ws (2 * k) 0) .round
-    → number ≡ payload (getD ws (2 * k + 1) 0) → outcome ≡ placeOf (getD ws (2 * k) 0) .measure → linesFrom ws k ≡ line round number outcome ++ linesFrom ws (k + 1)
+    → number ≡ payload (getD ws (2 * k + 1) 0) → outcome ≡ placeOf (getD ws (2 * k) 0) .measure → linesFrom ws k ≡ choiceLine round number outcome ++ linesFrom ws (k + 1)
 unfolding flatMap linesFrom
 left-pair ws k h r n o =
     rw (add-one k, drop-cons (pieces 2 ws) k [] (omega (arith, length-pieces 2 ws)), piece-element 2 ws k 0 0 h (omega arith), add-zero, piece-element 2 ws k 1 0 h (omega arith), r, n, o)
@@ -45,10 +45,10 @@ module _ (c : Choice) (p : Sound c) where
   outcome-told = rw first-payload (omega (arith, p .most))
 
 -- the lines of the pairs that are written are the lines of the choices
-pub pair-lines : (cs : List Choice) (out : List ℕ) → All Sound cs → pairLines (take (2 * length cs) (written cs out)) ≡ lines cs
-unfolding cut pairLines flatMap lines written
+pub pair-lines : (cs : List Choice) (out : List ℕ) → All Sound cs → pairLines (take (2 * length cs) (writtenPairs cs out)) ≡ choiceLines cs
+unfolding cut pairLines flatMap choiceLines writtenPairs
 pair-lines [] out e = refl
 pair-lines (c ∷ cs) out e =
     let n : 2 * suc (length cs) ≡ suc (suc (2 * length cs)) = omega arith in
     let p : Sound c = e c (List·Memᴰ·head refl) in
-    rw (n, pieces-more 2 (pairOf c) (take (2 * length cs) (written cs (drop 2 out))) (omega arith) refl, round-told c p, outcome-told c p, payload-word 6 (c .number) (p .number), pair-lines cs (drop 2 out) (λ k m. e k (List·Memᴰ·tail m)))
+    rw (n, pieces-more 2 (pairOf c) (take (2 * length cs) (writtenPairs cs (drop 2 out))) (omega arith) refl, round-told c p, outcome-told c p, payload-word 6 (c .number) (p .number), pair-lines cs (drop 2 out) (λ k m. e k (List·Memᴰ·tail m)))

@@ -12,11 +12,11 @@ use Rattle.sheet.specs.Sheet.{mostRounds, longest, lifts}
 use Rattle.reply.specs.Reply.{numbered, Reply, numbers, replied}
 use Rattle.tally.specs.Rounds.{inUse}
 use Rattle.sheet.specs.Lift.{New}
-use Rattle.selection.specs.Choice.{written, reply, output}
+use Rattle.selection.specs.Choice.{writtenPairs, reply, output}
 use Rattle.selection.proofs.Replies.{ran}
 use Rattle.selection.proofs.Steps.{steps, steps-count, steps-between}
 use Rattle.selection.proofs.Choices.{rises-sound, panel-rises, few-rounds}
-use Rattle.report.specs.Report.{mostWords, sheetWords, randomWords, lines, wordsLine, refusedLine, textOf, report, pairLines, printedWords, textRoom, Ready}
+use Rattle.report.specs.Report.{mostWords, sheetWords, randomWords, choiceLines, wordsLine, refusedLine, textOf, report, pairLines, printedWords, textRoom, Printable}
 use Rattle.report.proofs.Sizes.{chosen-le}
 use Rattle.report.proofs.Words.{take-min, random-first}
 use Rattle.report.proofs.Pairs.{pair-lines}
@@ -74,8 +74,8 @@ module _ (sheet ws : List ℕ) {n k : ℕ} (e : reply sheet ws 0 (2 * mostRounds
       let k = steps (lifts sheet) ws 0 (inUse New (lifts sheet)) (m .is) in
       let s = rises-sound 1 (m .choices) (panel-rises (m .fit) k) in
       let few : length (m .choices) ≤ mostRounds = omega (arith, steps-count k, few-rounds (lifts sheet)) in
-      let w : out′ ≡ written (m .choices) out = o ∙ rw (l, e, m .is) in
-      let p : pairLines (take (2 * n) out′) ≡ lines (m .choices) =
+      let w : out′ ≡ writtenPairs (m .choices) out = o ∙ rw (l, e, m .is) in
+      let p : pairLines (take (2 * n) out′) ≡ choiceLines (m .choices) =
       ap (λ i. pairLines (take (2 * i) out′)) (m .count) ∙ ap (λ l. pairLines (take (2 * length (m .choices)) l)) w ∙ pair-lines (m .choices) out s in
       record {
         inside = omega (arith, few, m .count);
@@ -85,7 +85,7 @@ module _ (sheet ws : List ℕ) {n k : ℕ} (e : reply sheet ws 0 (2 * mostRounds
 
 -- what the code writes of a reply is the text
 pub record Told (sheet ws : List ℕ) (r : Reply) (out : List ℕ) : Type 0 where
-  pub ready : Ready r out
+  pub ready : Printable r out
   pub is : textOf sheet ws ≡ printedWords r out
 
 pub text-told : (sheet ws : List ℕ) (r : Reply) (out : List ℕ) {out′ : List ℕ} → r ≡ reply sheet ws 0 (2 * mostRounds) → length ws ≤ mostWords
@@ -105,7 +105,7 @@ text-told sheet ws r out {out′} e h l l′ o = go (eqb (r .number) 0) refl
 
 -- what is asked of a reply that is no refusal, and what is printed of it and of a refusal
 module _ (r : Reply) (out : List ℕ) where
-  pub ready-chosen : {number count : ℕ} → Ready r out → number ≡ r .number → count ≡ r .second → number ≡ 0
+  pub ready-chosen : {number count : ℕ} → Printable r out → number ≡ r .number → count ≡ r .second → number ≡ 0
       → (2 * count ≤ length out) × ((words : ℕ) → words ≡ r .third → length (pairLines (take (2 * count) out) ++ wordsLine words) ≤ textRoom)
   ready-chosen h n c z = let q = h (sym n ∙ z) in rw c (q .0, λ words w. rw w (q .1))
 

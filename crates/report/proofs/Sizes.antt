@@ -9,7 +9,7 @@ use Rattle.sheet.specs.Sheet.{mostRounds}
 use Rattle.reply.specs.Reply.{numbered}
 use Rattle.selection.specs.Choice.{Choice}
 use Rattle.selection.proofs.Choices.{Sound}
-use Rattle.report.specs.Report.{mostWords, decimal, field, space, LF, line, lines, wordsLabel, wordsLine, refusedLabel, refusedLine, textRoom}
+use Rattle.report.specs.Report.{mostWords, decimal, field, space, LF, choiceLine, choiceLines, wordsLabel, wordsLine, refusedLabel, refusedLine, textRoom}
 use Rattle.report.proofs.Decimals.{field-le}
 
 -- ---- by parts
@@ -19,8 +19,8 @@ unfolding field
 length-field n b = length-append (decimal n) (b ∷ [])
 
 pub length-line : (round number outcome : ℕ)
-    → length (line round number outcome) ≡ length (field round space) + (length (field number space) + length (field outcome LF))
-unfolding line
+    → length (choiceLine round number outcome) ≡ length (field round space) + (length (field number space) + length (field outcome LF))
+unfolding choiceLine
 length-line round number outcome = rw (length-append, length-append)
 
 pub length-words : (n : ℕ) → length (wordsLine n) ≡ 6 + length (field n LF)
@@ -38,7 +38,7 @@ pub refused-le : (number place : ℕ) → number < 2 ^ 64 → place < 2 ^ 64 →
 refused-le number place n p =
     omega (arith, length-refused number place, field-le 19 number space (omega arith), field-le 19 place LF (omega arith))
 
-line-le : (c : Choice) → Sound c → length (line (c .round) (c .number) (c .outcome)) ≤ 16
+line-le : (c : Choice) → Sound c → length (choiceLine (c .round) (c .number) (c .outcome)) ≤ 16
 line-le c p =
     omega (
       arith,
@@ -48,11 +48,11 @@ line-le c p =
       field-le 0 (c .outcome) LF (omega (arith, p .most)),
     )
 
-lines-le : (cs : List Choice) → All Sound cs → length (lines cs) ≤ 16 * length cs
-unfolding lines
+lines-le : (cs : List Choice) → All Sound cs → length (choiceLines cs) ≤ 16 * length cs
+unfolding choiceLines
 lines-le [] e = omega arith
 lines-le (c ∷ cs) e = rw length-append (omega (arith, line-le c (e c (List·Memᴰ·head refl)), lines-le cs (λ k m. e k (List·Memᴰ·tail m))))
 
-pub chosen-le : (cs : List Choice) (k : ℕ) → All Sound cs → length cs ≤ mostRounds → k ≤ mostWords → length (lines cs ++ wordsLine k) ≤ textRoom
+pub chosen-le : (cs : List Choice) (k : ℕ) → All Sound cs → length cs ≤ mostRounds → k ≤ mostWords → length (choiceLines cs ++ wordsLine k) ≤ textRoom
 chosen-le cs k e n h =
     rw length-append (omega (arith, lines-le cs e, length-words k, field-le 3 k LF (omega arith)))

@@ -12,7 +12,7 @@ use lib.Seq.{drop-cons, length-take-le, take-all, take-at, take-suc, take-suc-se
 use borrow.Author.Tests.{leb-true, leb-false}
 use Rattle.probability.specs.Pieces.{pieces}
 use Rattle.probability.proofs.Pieces.{length-pieces, piece-length, piece-lent, pieces-first}
-use Rattle.report.specs.Report.{littleEndian, wordsOf, mostWords, randomWords, CountTheorem, Decoded}
+use Rattle.report.specs.Report.{littleEndian, littleEndianWords, mostWords, randomWords, CountTheorem, Decoded}
 
 -- ---- one word
 
@@ -51,21 +51,21 @@ suffix-end {bytes} {w} {n} h s =
 
 -- ---- many
 
-pub length-words : (size : ℕ) (bytes : List ℕ) → length (wordsOf size bytes) ≡ length bytes / size
-unfolding wordsOf
+pub length-words : (size : ℕ) (bytes : List ℕ) → length (littleEndianWords size bytes) ≡ length bytes / size
+unfolding littleEndianWords
 length-words size bytes = length-map (pieces size bytes) littleEndian ∙ length-pieces size bytes
 
 -- the word at place i
 word-at : (size : ℕ) (bytes : List ℕ) (i : ℕ) → i < length bytes / size
-    → getD (wordsOf size bytes) i 0 ≡ littleEndian (take (size * i + size - size * i) (drop (size * i) bytes))
-unfolding wordsOf littleEndian
+    → getD (littleEndianWords size bytes) i 0 ≡ littleEndian (take (size * i + size - size * i) (drop (size * i) bytes))
+unfolding littleEndianWords littleEndian
 word-at size bytes i h = List·getD-map littleEndian (pieces size bytes) i [] ∙ ap littleEndian (sym (piece-lent size bytes i h))
 
 -- the first i of n words are stored
 pub record Stored (size : ℕ) (bytes words : List ℕ) (n i : ℕ) : Type 0 where
   pub long : length words ≡ n
   pub inside : n ≤ length bytes / size
-  pub same : take i words ≡ take i (wordsOf size bytes)
+  pub same : take i words ≡ take i (littleEndianWords size bytes)
 
 pub stored-none : (size : ℕ) (bytes words : List ℕ) → length words ≤ length bytes / size → Stored size bytes words (length words) 0
 stored-none size bytes words h = record { long = refl; inside = h; same = refl }
@@ -82,16 +82,16 @@ module _ {size : ℕ} {bytes words : List ℕ} {n i : ℕ} (s : Stored size byte
       record {
         long = simp length-set (s .long);
         inside = s .inside;
-        same = rw (add-one i, take-suc-set words i v h, take-suc (wordsOf size bytes) i 0 (omega (arith, length-words size bytes)), s .same, word-at size bytes i l, e);
+        same = rw (add-one i, take-suc-set words i v h, take-suc (littleEndianWords size bytes) i 0 (omega (arith, length-words size bytes)), s .same, word-at size bytes i l, e);
       }
 
-  pub stored-end : n ≤ i → words ≡ take n (wordsOf size bytes)
-  stored-end h = sym (take-all n words (omega (arith, s .long))) ∙ sym (take-take n i words h) ∙ ap (take n) (s .same) ∙ take-take n i (wordsOf size bytes) h
+  pub stored-end : n ≤ i → words ≡ take n (littleEndianWords size bytes)
+  stored-end h = sym (take-all n words (omega (arith, s .long))) ∙ sym (take-take n i words h) ∙ ap (take n) (s .same) ∙ take-take n i (littleEndianWords size bytes) h
 
 -- ---- all the words, and the first ones
 
-pub all-words : (size : ℕ) (bytes : List ℕ) → take (length bytes / size) (wordsOf size bytes) ≡ wordsOf size bytes
-all-words size bytes = take-all (length bytes / size) (wordsOf size bytes) (omega (arith, length-words size bytes))
+pub all-words : (size : ℕ) (bytes : List ℕ) → take (length bytes / size) (littleEndianWords size bytes) ≡ littleEndianWords size bytes
+all-words size bytes = take-all (length bytes / size) (littleEndianWords size bytes) (omega (arith, length-words size bytes))
 
 -- as many as there are, `most` at most
 pub take-min : (l : List ℕ) (most : ℕ) {n : ℕ} → n ≡ length l → take (min n most) l ≡ take most l
@@ -106,8 +106,8 @@ take-min l most {n} e = go (leb n most) refl
         let m : min n most ≡ most = omega arith in
         rw m
 
-pub first-words : (size most : ℕ) (bytes : List ℕ) → take (min (length bytes / size) most) (wordsOf size bytes) ≡ take most (wordsOf size bytes)
-first-words size most bytes = take-min (wordsOf size bytes) most (sym (length-words size bytes))
+pub first-words : (size most : ℕ) (bytes : List ℕ) → take (min (length bytes / size) most) (littleEndianWords size bytes) ≡ take most (littleEndianWords size bytes)
+first-words size most bytes = take-min (littleEndianWords size bytes) most (sym (length-words size bytes))
 
 pub random-le : (bytes : List ℕ) → length (randomWords bytes) ≤ mostWords
 random-le bytes = rw length-take (omega arith)
@@ -118,10 +118,10 @@ pub lent : {A : Type 0} {n : ℕ} (words : List A) → n ≤ length words → n 
 lent {n = n} words h = sym (length-take-le n words h)
 
 pub decoded : (size n : ℕ) (bytes words : List ℕ) {part ws : List ℕ} → n ≤ length bytes / size → n ≤ length words
-    → part ≡ take (length (take n words)) (wordsOf size bytes) → take n (wordsOf size bytes) ≡ ws → Decoded ws (part ++ drop n words) n
+    → part ≡ take (length (take n words)) (littleEndianWords size bytes) → take n (littleEndianWords size bytes) ≡ ws → Decoded ws (part ++ drop n words) n
 decoded size n bytes words {part} {ws} m h p e =
     let w : part ≡ ws = p ∙ rw (← lent words h) e in
-    let l : length ws ≡ n = rw (← e) (length-take-le n (wordsOf size bytes) (omega (arith, length-words size bytes))) in
+    let l : length ws ≡ n = rw (← e) (length-take-le n (littleEndianWords size bytes) (omega (arith, length-words size bytes))) in
     rw w (record {
       is = take-at ws (drop n words) n l;
       count = sym l;
@@ -140,5 +140,5 @@ take-map f (suc n) (x ∷ xs) = ap (λ l. f x ∷ l) (take-map f n xs)
 
 -- no byte behind those of the first words matters
 pub random-first : (bytes : List ℕ) → randomWords (take (8 * mostWords) bytes) ≡ randomWords bytes
-unfolding wordsOf
+unfolding littleEndianWords
 random-first bytes = rw (pieces-first 8 mostWords bytes (omega arith), take-map, take-take mostWords mostWords (pieces 8 bytes) (omega arith), ← take-map)

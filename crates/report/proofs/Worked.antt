@@ -4,7 +4,7 @@ use mathlib.Core.Bool.{true}
 use Rattle.probability.specs.Table.{allRight}
 use Rattle.probability.specs.Interval.{pick}
 use Rattle.probability.specs.Pieces.{cut}
-use Rattle.probability.specs.Plan.{after}
+use Rattle.probability.specs.Plan.{bind}
 use Rattle.probability.specs.Sum.{total, totalBy}
 use Rattle.draw.specs.Draw.{drawFrom}
 use Rattle.draw.specs.Run.{run}
@@ -13,11 +13,11 @@ use Rattle.round.specs.Choice.{drawPlace, firstOdds, preliminaryBy, stayOr, key
 use Rattle.sheet.specs.Sheet.{lifts}
 use Rattle.sheet.specs.Reading.{fault, readFrom}
 use Rattle.tally.specs.Verdict.{firstRound, ofRounds, verdict}
-use Rattle.tally.specs.Rounds.{those, sends, ofRound, heldAt}
-use Rattle.selection.specs.Choice.{donorsOf, liftsOf, heldIn, planOf, liftAt, panelFrom, reply}
-use Rattle.report.specs.Report.{littleEndian, wordsOf, digits, decimal, field, line, lines, wordsLine, refusedLine, textOf, report}
+use Rattle.tally.specs.Rounds.{filterRange, sends, ofRound, heldAt}
+use Rattle.selection.specs.Choice.{donorsOf, liftsOf, heldOfRound, planOf, liftInRound, panelFrom, reply}
+use Rattle.report.specs.Report.{littleEndian, littleEndianWords, digits, decimal, field, choiceLine, choiceLines, wordsLine, refusedLine, textOf, report}
 use Rattle.report.specs.Worked.{cases}
 
 pub all-right : allRight cases ≡ true
-unfolding pick cut after total totalBy drawFrom run S U D oldWeight newWeight weights G drawPlace firstOdds preliminaryBy stayOr keyfitz select plan outcome lifts fault readFrom those sends ofRound firstRound ofRounds verdict donorsOf liftsOf heldAt heldIn planOf liftAt panelFrom reply littleEndian wordsOf digits decimal field line lines wordsLine refusedLine textOf report
+unfolding pick cut bind total totalBy drawFrom run S U D oldWeight newWeight weights G drawPlace firstOdds preliminaryBy stayOr keyfitz select plan outcome lifts fault readFrom filterRange sends ofRound firstRound ofRounds verdict donorsOf liftsOf heldAt heldOfRound planOf liftInRound panelFrom reply littleEndian littleEndianWords digits decimal field choiceLine choiceLines wordsLine refusedLine textOf report
 all-right = refl

@@ -18,12 +18,12 @@ littleEndian [] = 0
 littleEndian (b ∷ bs) = b + 256 * littleEndian bs
 
 -- the words of `size` bytes: "an unfinished last word is ignored"
-unfoldable pub wordsOf : ℕ → List ℕ → List ℕ
-wordsOf size bytes = map littleEndian (pieces size bytes)
+unfoldable pub littleEndianWords : ℕ → List ℕ → List ℕ
+littleEndianWords size bytes = map littleEndian (pieces size bytes)
 
 -- "sheet.bin (32-bit little-endian)"
 abbrev pub sheetWords : List ℕ → List ℕ
-sheetWords bytes = wordsOf 4 bytes
+sheetWords bytes = littleEndianWords 4 bytes
 
 -- "the first 4,096 words"
 abbrev pub mostWords : ℕ
@@ -31,7 +31,7 @@ mostWords = 4096
 
 -- "words.bin (64-bit little-endian, the first 4,096 words; ..)"
 abbrev pub randomWords : List ℕ → List ℕ
-randomWords bytes = take mostWords (wordsOf 8 bytes)
+randomWords bytes = take mostWords (littleEndianWords 8 bytes)
 
 -- proved: of the whole words of a file of random words the first 4,096 are read
 abbrev pub CountTheorem : Type 0
@@ -67,13 +67,13 @@ abbrev pub LF : ℕ
 LF = 10
 
 -- "`round lift outcome`", "each line ends with LF"
-unfoldable pub line : ℕ → ℕ → ℕ → List ℕ
-line round number outcome = field round space ++ (field number space ++ field outcome LF)
+unfoldable pub choiceLine : ℕ → ℕ → ℕ → List ℕ
+choiceLine round number outcome = field round space ++ (field number space ++ field outcome LF)
 
 -- "It prints `round lift outcome` per choice"
-unfoldable pub lines : List Choice → List ℕ
-lines [] = []
-lines (c ∷ cs) = line (c .round) (c .number) (c .outcome) ++ lines cs
+unfoldable pub choiceLines : List Choice → List ℕ
+choiceLines [] = []
+choiceLines (c ∷ cs) = choiceLine (c .round) (c .number) (c .outcome) ++ choiceLines cs
 
 -- the letters of "words", and a space
 abbrev pub wordsLabel : List ℕ
@@ -104,7 +104,7 @@ choicesOf (short r) = []
 
 -- the text of a sheet and random words: "starting at 0", with an output that every sheet's choices fit
 unfoldable pub textOf : List ℕ → List ℕ → List ℕ
-textOf sheet ws = printed (reply sheet ws 0 (2 * mostRounds)) (lines (choicesOf (panel (lifts sheet) ws 0)))
+textOf sheet ws = printed (reply sheet ws 0 (2 * mostRounds)) (choiceLines (choicesOf (panel (lifts sheet) ws 0)))
 
 -- the whole text, from the sheet's bytes, its true length in bytes, and the bytes of the words: "A sheet of bytes not divisible by 4,
 -- however long, is refusal 1 with its byte length as place."
@@ -119,7 +119,7 @@ report sheet size words =
 
 -- the line of two output words: "kind 5 (upper 7 bits round, lower 21 outcome), kind 6 (lift number)"
 abbrev pub pairLine : List ℕ → List ℕ
-pairLine p = line (placeOf (getD p 0 0) .round) (payload (getD p 1 0)) (placeOf (getD p 0 0) .measure)
+pairLine p = choiceLine (placeOf (getD p 0 0) .round) (payload (getD p 1 0)) (placeOf (getD p 0 0) .measure)
 
 -- the lines of output words, two for each choice
 unfoldable pub pairLines : List ℕ → List ℕ
@@ -134,8 +134,8 @@ abbrev pub textRoom : ℕ
 textRoom = 2048
 
 -- a reply whose choices, if it is no refusal, stand in the output words, with room for their text
-abbrev pub Ready : Reply → List ℕ → Type 0
-Ready r out =
+abbrev pub Printable : Reply → List ℕ → Type 0
+Printable r out =
     r .number ≡ 0 → (2 * r .second ≤ length out) × (length (pairLines (take (2 * r .second) out) ++ wordsLine (r .third)) ≤ textRoom)
 
 -- the words ws stand first among some words, n of them

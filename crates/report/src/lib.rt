@@ -7,7 +7,7 @@ ghost use lib.ListN.{length, take};
 ghost use Rattle.sheet.specs.Sheet.{longest};
 ghost use Rattle.reply.specs.Reply.{numbered};
 ghost use Rattle.reply.specs.Refusal.{replyOf};
-ghost use Rattle.report.specs.Report.{littleEndian, wordsOf, mostWords, sheetWords, randomWords, decimal, field, line as lineOf, pairLines, wordsLine, refusedLine, textOf, report as reportOf, printedWords, textRoom, Ready, Decoded, Appended};
+ghost use Rattle.report.specs.Report.{littleEndian, littleEndianWords, mostWords, sheetWords, randomWords, decimal, field, choiceLine as lineOf, pairLines, wordsLine, refusedLine, textOf, report as reportOf, printedWords, textRoom, Printable, Decoded, Appended};
 use reply::Answer;
 use sheet::Sheet;
 
@@ -18,7 +18,7 @@ const MOST_WORDS: usize = 4096;
 pub const WORDS_BYTES: usize = 8 * MOST_WORDS;
 
 // Room for every text.
-pub const ROOM: usize = 2048;
+pub const TEXT_ROOM: usize = 2048;
 
 // ---- the files
 
@@ -40,7 +40,7 @@ fn little_endian(bytes: &[u8]) -> u64
 // The first 32-bit words of some bytes.
 fn words32(bytes: &[u8], words: &mut [u32])
     requires { ⌜ 4 * length (now words) ≤ length (now bytes) ⌝ }
-    ensures { λ _. ⌜ now (words .exit) ≡ take (length (now (words .entry))) (wordsOf 4 (now (bytes .entry))) ⌝ }
+    ensures { λ _. ⌜ now (words .exit) ≡ take (length (now (words .entry))) (littleEndianWords 4 (now (bytes .entry))) ⌝ }
 {
     let mut i = 0;
     while i < words.len() {
@@ -54,7 +54,7 @@ fn words32(bytes: &[u8], words: &mut [u32])
 // The first 64-bit words of some bytes.
 fn words64(bytes: &[u8], words: &mut [u64])
     requires { ⌜ 8 * length (now words) ≤ length (now bytes) ⌝ }
-    ensures { λ _. ⌜ now (words .exit) ≡ take (length (now (words .entry))) (wordsOf 8 (now (bytes .entry))) ⌝ }
+    ensures { λ _. ⌜ now (words .exit) ≡ take (length (now (words .entry))) (littleEndianWords 8 (now (bytes .entry))) ⌝ }
 {
     let mut i = 0;
     while i < words.len() {
@@ -201,7 +201,7 @@ fn put_refusal(text: &mut [u8], from: usize, number: u64, place: u64) -> usize
 
 // The text of an answer and the output words with it.
 fn put_answer(text: &mut [u8], answer: Answer, out: &[u32]) -> usize
-    requires { ⌜ Ready (replyOf answer) (now out) ⌝ }
+    requires { ⌜ Printable (replyOf answer) (now out) ⌝ }
     requires { ⌜ textRoom ≤ length (now text) ⌝ }
     ensures is { λ r. ⌜ take r (now (text .exit)) ≡ printedWords (replyOf answer) (now (out .entry)) ⌝ }
     ensures fits { λ r. ⌜ r ≤ length (now (text .exit)) ⌝ }
@@ -232,7 +232,7 @@ fn put_text(sheet: &[u8], words: &[u8], text: &mut [u8]) -> usize
 }
 
 // The whole text, from what was read of the sheet, its true length in bytes, and what was read of the words; answers how long it is.
-pub fn report(sheet: &[u8], size: usize, words: &[u8], text: &mut [u8; ROOM]) -> usize
+pub fn report(sheet: &[u8], size: usize, words: &[u8], text: &mut [u8; TEXT_ROOM]) -> usize
     ensures is { λ r. ⌜ take r (now (text .exit)) ≡ reportOf (now (sheet .entry)) size (now (words .entry)) ⌝ }
     ensures fits { λ r. ⌜ r ≤ length (now (text .exit)) ⌝ }
 {

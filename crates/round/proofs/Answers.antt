@@ -8,14 +8,14 @@ use lib.Dec.{ltb}
 use lib.ListN.{length}
 use borrow.Author.Tests.{lt-ltb, le-ltb, le-leb, lt-leb}
 use Rattle.probability.specs.Interval.{pick}
-use Rattle.probability.specs.Plan.{Plan, draw, after}
+use Rattle.probability.specs.Plan.{Plan, draw, bind}
 use Rattle.draw.specs.Draw.{largest, drawAt}
-use Rattle.draw.specs.Run.{Run, finished, short, drew, run}
+use Rattle.draw.specs.Run.{Run, finished, short, extendRun, run}
 use Rattle.draw.specs.declared.Drawn.{Drawn}
 use Rattle.draw.specs.declared.Drawn.the-variants.{Value, Short as Ended}
 use Rattle.round.specs.Round.{D, Weight, growth, G}
-use Rattle.round.specs.Choice.{Selection, noUnit, unitAt, selection, drawPlace, firstOdds, preliminaryBy, preliminary, stayOr, replacement, keyfitz, select, plan, outcome, proposed, answer}
-use Rattle.round.specs.Rows.{scaled, scaleOf, wholly, Room, Balanced, Callable, Contested}
+use Rattle.round.specs.Choice.{Selection, noPreliminary, preliminaryAt, selection, drawPlace, firstOdds, preliminaryBy, preliminary, stayOr, replacement, keyfitz, select, plan, outcome, proposed, answer}
+use Rattle.round.specs.Rows.{scaled, scaleOf, wholly, WeightsFit, Balanced, Callable, Contested}
 use Rattle.round.specs.declared.Donors.{Donors}
 use Rattle.round.specs.declared.Held.{Held}
 use Rattle.round.specs.declared.Held.the-variants.{Neither, Single, Both}
@@ -25,10 +25,10 @@ use Rattle.round.specs.declared.Selected.{Selected}
 use Rattle.round.specs.declared.Selected.the-variants.{At as Chosen, Short as None}
 use Rattle.round.specs.declared.Proposed.{Proposed}
 use Rattle.round.specs.declared.Proposed.the-variants.{None as NoLift, At, Short}
-use Rattle.round.proofs.Loops.{Weighed, weight-at}
+use Rattle.round.proofs.Loops.{SumKept, weight-at}
 use Rattle.round.proofs.Scales.{single-inside, both-inside, both-drawable, updatable, fresh-scaled, select-scaled}
 
-drew-answer : (h : Held) (v : ℕ) (r : Run Selection) → answer h (drew v r) ≡ answer h r
+drew-answer : (h : Held) (v : ℕ) (r : Run Selection) → answer h (extendRun v r) ≡ answer h r
 drew-answer h v (finished vs s next) = refl
 drew-answer h v short = refl
 
@@ -57,7 +57,7 @@ module _ (m : ℕ) (ws : List ℕ) (from : ℕ) (h : Held) where
 
   -- ---- Keyfitz's update
 
-  module _ {s : Scale} {ls : List Lift} {i x : ℕ} {l : Lift} (w : Weighed s ls i x l) where
+  module _ {s : Scale} {ls : List Lift} {i x : ℕ} {l : Lift} (w : SumKept s ls i x l) where
     -- it stays with no draw
     pub stays : {o : ℕ} → l .old * x ≤ l .new * s .new → o ≡ outcome h (selection i false)
         → Chosen i o from ≡ answer h (run m ws from (keyfitz (map (scaled s) ls) i))
@@ -117,23 +117,23 @@ contested (Both i j) e c = both-drawable e c
 
 -- ---- the choice of a round, by its preliminary lift
 
-plan-neither : (ds : Donors) (ls : List Lift) → plan ds ls Neither ≡ select ds ls noUnit
-unfolding plan preliminaryBy after
+plan-neither : (ds : Donors) (ls : List Lift) → plan ds ls Neither ≡ select ds ls noPreliminary
+unfolding plan preliminaryBy bind
 plan-neither ds ls = refl
 
-plan-single : (ds : Donors) (ls : List Lift) (i : ℕ) → plan ds ls (Single i) ≡ select ds ls (unitAt i)
-unfolding plan preliminaryBy after
+plan-single : (ds : Donors) (ls : List Lift) (i : ℕ) → plan ds ls (Single i) ≡ select ds ls (preliminaryAt i)
+unfolding plan preliminaryBy bind
 plan-single ds ls i = refl
 
-plan-both : (ds : Donors) (ls : List Lift) (i j : ℕ) → plan ds ls (Both i j) ≡ draw (D ds ls) (λ v. select ds ls (unitAt (cond (ltb v (firstOdds ds ls)) i j)))
-unfolding plan preliminaryBy after
+plan-both : (ds : Donors) (ls : List Lift) (i j : ℕ) → plan ds ls (Both i j) ≡ draw (D ds ls) (λ v. select ds ls (preliminaryAt (cond (ltb v (firstOdds ds ls)) i j)))
+unfolding plan preliminaryBy bind
 plan-both ds ls i j = refl
 
 module _ (ds : Donors) (ls : List Lift) (ws : List ℕ) (from : ℕ) where
   -- what follows from it
   abbrev follow : Held → Proposed → Selected
-  follow h NoLift = answer h (run largest ws from (select ds ls noUnit))
-  follow h (At i n) = answer h (run largest ws n (select ds ls (unitAt i)))
+  follow h NoLift = answer h (run largest ws from (select ds ls noPreliminary))
+  follow h (At i n) = answer h (run largest ws n (select ds ls (preliminaryAt i)))
   follow h Short = None
 
   -- is the round's choice
@@ -143,7 +143,7 @@ module _ (ds : Donors) (ls : List Lift) (ws : List ℕ) (from : ℕ) where
   follows (Both i j) = rw (plan-both ds ls i j) (go (drawAt largest ws from (D ds ls)) refl)
     where
       k : ℕ → Plan Selection
-      k v = select ds ls (unitAt (cond (ltb v (firstOdds ds ls)) i j))
+      k v = select ds ls (preliminaryAt (cond (ltb v (firstOdds ds ls)) i j))
 
       go : (d : Drawn) → d ≡ drawAt largest ws from (D ds ls)
           → follow (Both i j) (proposed (run largest ws from (preliminary ds ls (Both i j)))) ≡ answer (Both i j) (run largest ws from (draw (D ds ls) k))
@@ -192,5 +192,5 @@ module _ (ds : Donors) (ls : List Lift) (ws : List ℕ) (from : ℕ) where
     on-short q = rw q at followed
 
     -- the update can be made
-    pub on-place-fits : {i n : ℕ} → Callable ds ls h → p ≡ At i n → Room s ls × (Balanced s ls × (i < length ls))
+    pub on-place-fits : {i n : ℕ} → Callable ds ls h → p ≡ At i n → WeightsFit s ls × (Balanced s ls × (i < length ls))
     on-place-fits c q = updatable scale c (at-inside h c (sym q ∙ by-round))

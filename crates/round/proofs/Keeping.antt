@@ -10,15 +10,15 @@ use lib.Dec.{leb, eqb}
 use borrow.Author.Tests.{leb-true, leb-false}
 use Rattle.probability.specs.Sum.{total}
 use Rattle.probability.specs.Fraction.{Fraction, _//_, _⊗_, _≈_, sum}
-use Rattle.probability.specs.Plan.{after, paths, weight, mass}
+use Rattle.probability.specs.Plan.{bind, paths, weight, mass}
 use Rattle.probability.proofs.Tests.{eqb-comm}
 use Rattle.probability.proofs.Sums.{over-ext, Σ-mono, Σ-mul, Σ-map, Σ-term}
 use Rattle.probability.proofs.Fractions.{≈-refl, ≈-sym, ≈-trans, ≲-≈, ≈-num, ⊕-same, ⊗-≈, sum-≈}
 use Rattle.probability.proofs.Masses.{weighed}
-use Rattle.round.specs.Round.{liftAt, S, sent, U, D, oldWeight, Weight, weights, weightAt, G, Fitting}
+use Rattle.round.specs.Round.{liftAt, S, measureFrom, U, D, oldWeight, Weight, weights, weightAt, G, WellPosed}
 use Rattle.round.specs.Choice.{Selection, fresh, preliminaryBy, keyfitz, select, plan, isHeld}
-use Rattle.round.specs.Share.{overInitial, overHeld, chooses}
-use Rattle.round.specs.Keep.{kept, Coupling, tickets, keptTickets, Attained, smaller, Best, KeepsTheorem}
+use Rattle.round.specs.Share.{meanOverInitial, meanOverHeld, chooses}
+use Rattle.round.specs.Keep.{roundKept, Coupling, tickets, keptTickets, Attained, smaller, Best, KeepsTheorem}
 use Rattle.round.specs.declared.Donors.the-variants.{One}
 use Rattle.round.specs.declared.Held.the-variants.{Neither, Single}
 use Rattle.round.specs.declared.Lift.{Lift}
@@ -97,15 +97,15 @@ best-≈ e b =
 
 -- ---- what is kept
 
-module _ (T : ℕ) (ls : List Lift) (f : Fitting (One T) ls) (whole : U 1 ls ≡ T) where
+module _ (T : ℕ) (ls : List Lift) (f : WellPosed (One T) ls) (whole : U 1 ls ≡ T) where
   keeps-here : (i : ℕ) → i < length ls → weight (λ s. isHeld (Single i) (s .place)) (paths (plan (One T) ls (Single i))) ≈ mass (chooses i) (keyfitz (weights (One T) ls) i)
-  unfolding plan preliminaryBy after select
+  unfolding plan preliminaryBy bind select
   keeps-here i l =
       rw (fun-ext {f = λ (s : Selection). eqb i (s .place)} {g = chooses i} (λ s. eqb-comm i (s .place)))
       (weighed (chooses i) (keyfitz (weights (One T) ls) i) (every-update (One T) ls (f .positive) (one-positive (f .donate)) i l) .agree)
 
   -- the old measure over T is the old weight over D × S
-  old-part : (i : ℕ) → i < length ls → sent 1 (liftAt ls i) // T ≈ weightAt (weights (One T) ls) i .old // (D (One T) ls * S ls)
+  old-part : (i : ℕ) → i < length ls → measureFrom 1 (liftAt ls i) // T ≈ weightAt (weights (One T) ls) i .old // (D (One T) ls * S ls)
   unfolding D oldWeight
   old-part i l =
       rw (weight-at (One T) ls i l) (record {
@@ -116,14 +116,14 @@ module _ (T : ℕ) (ls : List Lift) (f : Fitting (One T) ls) (whole : U 1 ls ≡
 
   -- no held lift is elsewhere
   elsewhere-part : (T - U 1 ls) // T ⊗ weight (λ s. isHeld Neither (s .place)) (paths (plan (One T) ls Neither)) ≈ 0 // (D (One T) ls * S ls)
-  unfolding plan preliminaryBy after select
+  unfolding plan preliminaryBy bind select
   elsewhere-part =
       let d = weighed (λ s. isHeld Neither (s .place)) (fresh ls) (every-fresh ls (f .positive)) .agree .left in
       let e : T - U 1 ls ≡ 0 = omega arith in let p : 0 < T = rw (← whole) (f .donate .some) in
       rw e (record { cross = omega arith; left = mul-pos p d; right = mul-pos (one-positive (f .donate)) (f .positive) })
 
-  kept-sum : kept (One T) ls ≈ total (map smaller (weights (One T) ls)) // (D (One T) ls * S ls)
-  unfolding kept overHeld overInitial
+  kept-sum : roundKept (One T) ls ≈ total (map smaller (weights (One T) ls)) // (D (One T) ls * S ls)
+  unfolding roundKept meanOverHeld meanOverInitial
   kept-sum =
       let ws = weights (One T) ls in let N : ℕ = D (One T) ls * S ls in
       let here-part : sum (length ls) (λ i. weightAt ws i .old // N ⊗ mass (chooses i) (keyfitz ws i)) ≈ total (map smaller ws) // N

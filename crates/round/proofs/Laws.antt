@@ -8,14 +8,14 @@ use lib.ListN.{length, List·getD-map}
 use lib.Dec.{leb, ltb}
 use Rattle.probability.proofs.Sums.{map-le}
 use Rattle.probability.specs.Interval.{pick}
-use Rattle.probability.specs.Plan.{Plan, done, draw, after, Every, Drawable, Within}
+use Rattle.probability.specs.Plan.{Plan, done, draw, bind, Every, Drawable, DrawsAtMost}
 use Rattle.probability.proofs.Intervals.{pick-some}
 use Rattle.probability.proofs.Fractions.{pos-left}
 use Rattle.probability.proofs.Masses.{every-map}
-use Rattle.round.specs.Round.{liftAt, S, D, Weight, oldWeight, newWeight, weights, weightAt, Fitting}
-use Rattle.round.specs.Choice.{Selection, Preliminary, noUnit, unitAt, drawPlace, fresh, firstOdds, preliminaryBy, stayOr, keyfitz, select, plan, isHeld, outcome}
+use Rattle.round.specs.Round.{liftAt, S, D, Weight, oldWeight, newWeight, weights, weightAt, WellPosed}
+use Rattle.round.specs.Choice.{Selection, Preliminary, noPreliminary, preliminaryAt, drawPlace, fresh, firstOdds, preliminaryBy, stayOr, keyfitz, select, plan, isHeld, outcome}
 use Rattle.round.specs.Rows.{Bounded, Stands}
-use Rattle.round.specs.Law.{Small, Weighty, LawsTheorem}
+use Rattle.round.specs.Law.{Fits64, Weighty, LawsTheorem}
 use Rattle.round.specs.declared.Donors.{Donors}
 use Rattle.round.specs.declared.Donors.the-variants.{None, One, Two}
 use Rattle.round.specs.declared.Held.{Held}
@@ -39,41 +39,41 @@ outcome-between h s = go (isHeld h (s .place)) (s .dropped)
 
 -- ---- at most three draws
 
-within-more : {A : Type 0} (n : ℕ) (p : Plan A) → Within n p → Within (suc n) p
-unfolding Within
+within-more : {A : Type 0} (n : ℕ) (p : Plan A) → DrawsAtMost n p → DrawsAtMost (suc n) p
+unfolding DrawsAtMost
 within-more n (done a) w = tt
 within-more zero (draw b k) w = absurd w
 within-more (suc n) (draw b k) w = λ v l. within-more n (k v) (w v l)
 
-within-cond : {A : Type 0} (n : ℕ) (b : Bool) (p q : Plan A) → Within n p → Within n q → Within n (cond b p q)
+within-cond : {A : Type 0} (n : ℕ) (b : Bool) (p q : Plan A) → DrawsAtMost n p → DrawsAtMost n q → DrawsAtMost n (cond b p q)
 within-cond n true p q u w = u
 within-cond n false p q u w = w
 
-within-stayOr : {A : Type 0} (n : ℕ) (w : Weight) (stay move : Plan A) → Within n stay → Within n move → Within (suc n) (stayOr w stay move)
-unfolding Within stayOr
+within-stayOr : {A : Type 0} (n : ℕ) (w : Weight) (stay move : Plan A) → DrawsAtMost n stay → DrawsAtMost n move → DrawsAtMost (suc n) (stayOr w stay move)
+unfolding DrawsAtMost stayOr
 within-stayOr n w stay move u v =
     within-cond (suc n) (leb (w .old) (w .new)) stay (draw (w .old) (λ r. cond (ltb r (w .new)) stay move)) (within-more n stay u)
     (λ r _. within-cond n (ltb r (w .new)) stay move u v)
 
-within-keyfitz : (ws : List Weight) (i : ℕ) → Within 2 (keyfitz ws i)
-unfolding Within keyfitz drawPlace
+within-keyfitz : (ws : List Weight) (i : ℕ) → DrawsAtMost 2 (keyfitz ws i)
+unfolding DrawsAtMost keyfitz drawPlace
 within-keyfitz ws i = within-stayOr 1 (weightAt ws i) _ _ tt (λ q _. tt)
 
-within-select : (ds : Donors) (ls : List Lift) (a : Preliminary) → Within 2 (select ds ls a)
-unfolding Within select drawPlace
-within-select ds ls noUnit = λ v l. tt
-within-select ds ls (unitAt i) = within-keyfitz (weights ds ls) i
+within-select : (ds : Donors) (ls : List Lift) (a : Preliminary) → DrawsAtMost 2 (select ds ls a)
+unfolding DrawsAtMost select drawPlace
+within-select ds ls noPreliminary = λ v l. tt
+within-select ds ls (preliminaryAt i) = within-keyfitz (weights ds ls) i
 
-three : (ds : Donors) (ls : List Lift) (h : Held) → Within 3 (plan ds ls h)
-unfolding Within plan preliminaryBy after
-three ds ls Neither = within-more 2 (select ds ls noUnit) (within-select ds ls noUnit)
-three ds ls (Single i) = within-more 2 (select ds ls (unitAt i)) (within-select ds ls (unitAt i))
-three ds ls (Both i j) = λ v l. within-select ds ls (unitAt (cond (ltb v (firstOdds ds ls)) i j))
+three : (ds : Donors) (ls : List Lift) (h : Held) → DrawsAtMost 3 (plan ds ls h)
+unfolding DrawsAtMost plan preliminaryBy bind
+three ds ls Neither = within-more 2 (select ds ls noPreliminary) (within-select ds ls noPreliminary)
+three ds ls (Single i) = within-more 2 (select ds ls (preliminaryAt i)) (within-select ds ls (preliminaryAt i))
+three ds ls (Both i j) = λ v l. within-select ds ls (preliminaryAt (cond (ltb v (firstOdds ds ls)) i j))
 
 -- ---- every draw has a value
 
-drawable : (ds : Donors) (ls : List Lift) → Fitting ds ls → (h : Held) → Stands ds h (length ls) → Drawable (plan ds ls h)
-unfolding plan preliminaryBy after select
+drawable : (ds : Donors) (ls : List Lift) → WellPosed ds ls → (h : Held) → Stands ds h (length ls) → Drawable (plan ds ls h)
+unfolding plan preliminaryBy bind select
 drawable None ls f Neither s = every-fresh ls (f .positive)
 drawable None ls f (Single i) s = absurd s
 drawable None ls f (Both i j) s = absurd s
@@ -116,7 +116,7 @@ module _ (ds : Donors) (ls : List Lift) (p : 0 < S ls) where
       (arrival (weights ds ls) (D ds ls * S ls) (whole i h) (old-sum ds ls) (new-sum ds ls) i h (weight-in (weights ds ls) i h))
 
   chosen : (h : Held) → Weighty ds ls h → Every (λ s. 0 < liftAt ls (s .place) .new) (plan ds ls h)
-  unfolding Every plan preliminaryBy after select
+  unfolding Every plan preliminaryBy bind select
   chosen Neither w = chosen-fresh
   chosen (Single i) w = chosen-update i w
   chosen (Both i j) w = (pos-left (D ds ls) (S ls) (whole i (w .0)), λ v _. go (ltb v (firstOdds ds ls)))
@@ -125,7 +125,7 @@ module _ (ds : Donors) (ls : List Lift) (p : 0 < S ls) where
       go true = chosen-update i (w .0)
       go false = chosen-update j (w .1)
 
-small : (ds : Donors) (ls : List Lift) → Fitting ds ls → Bounded ds ls → Small ds ls
+small : (ds : Donors) (ls : List Lift) → WellPosed ds ls → Bounded ds ls → Fits64 ds ls
 small ds ls f b =
     let w = weight-bound ds ls f b in let ws = weights ds ls in
     record {

@@ -14,10 +14,10 @@ use Rattle.probability.specs.Plan.{done, draw, mass, mean}
 use Rattle.probability.proofs.Sums.{over-ext, Σ-add, Σ-mul, Σ-step, Σ-one}
 use Rattle.probability.proofs.Fractions.{≈-refl, ≈-trans, ≈-num}
 use Rattle.probability.proofs.Masses.{mass-even}
-use Rattle.round.specs.Round.{liftAt, S, sent, U, D, oldWeight, Sends}
-use Rattle.round.specs.Choice.{Preliminary, noUnit, unitAt, firstOdds, preliminaryBy, preliminary}
+use Rattle.round.specs.Round.{liftAt, S, measureFrom, U, D, oldWeight, IsDonor}
+use Rattle.round.specs.Choice.{Preliminary, noPreliminary, preliminaryAt, firstOdds, preliminaryBy, preliminary}
 use Rattle.probability.specs.Initial.{here, elsewhere}
-use Rattle.round.specs.Share.{heldOf, overInitial, overHeld}
+use Rattle.round.specs.Share.{heldOf, meanOverInitial, meanOverHeld}
 use Rattle.round.specs.declared.Donors.{Donors}
 use Rattle.round.specs.declared.Donors.the-variants.{One, Two}
 use Rattle.round.specs.declared.Held.{Held}
@@ -46,12 +46,12 @@ both t o b i j p l =
 
 -- what donor k sends of the lifts that pass
 passing : ℕ → List Lift → (ℕ → ℕ) → ℕ
-passing k ls c = Σ (length ls) (λ i. sent k (liftAt ls i) * c i)
+passing k ls c = Σ (length ls) (λ i. measureFrom k (liftAt ls i) * c i)
 
-passing-mixed : (k : ℕ) (ls : List Lift) (c : ℕ → ℕ) (a b : ℕ) → Σ (length ls) (λ i. sent k (liftAt ls i) * (a + b * c i)) ≡ U k ls * a + b * passing k ls c
+passing-mixed : (k : ℕ) (ls : List Lift) (c : ℕ → ℕ) (a b : ℕ) → Σ (length ls) (λ i. measureFrom k (liftAt ls i) * (a + b * c i)) ≡ U k ls * a + b * passing k ls c
 unfolding passing
 passing-mixed k ls c a b =
-    let n = length ls in let s : ℕ → ℕ = λ i. sent k (liftAt ls i) in
+    let n = length ls in let s : ℕ → ℕ = λ i. measureFrom k (liftAt ls i) in
     over-ext _+_ 0 n {g = λ i. s i * a + s i * c i * b} (λ i _. omega arith)
     ∙ Σ-add n (λ i. s i * a) (λ i. s i * c i * b)
     ∙ ap₂ _+_ (sent-all k ls a) (Σ-mul n (λ i. s i * c i) b)
@@ -62,17 +62,17 @@ two-identity : (U₁ E₁ U₂ E₂ C₁ C₂ z T₁ T₂ : ℕ) → T₁ ≡ U�
     ≡ (U₁ * T₂ + U₂ * E₁) * (T₂ * C₁ + T₁ * C₂) + E₁ * E₂ * z * (U₁ * T₂ + U₂ * T₁)
 two-identity U₁ E₁ U₂ E₂ C₁ C₂ z T₁ T₂ e f = rw (e, f) (omega arith)
 
-module _ (ls : List Lift) (t : Preliminary → Bool) (c : ℕ → ℕ) (z : ℕ) (hc : (a : ℕ) → a < length ls → indicator (t (unitAt a)) ≡ c a) (hz : indicator (t noUnit) ≡ z) where
-  one-mass : (T : ℕ) → 0 < T → overHeld (One T) ls (λ h. mass t (preliminary (One T) ls h)) ≈ (passing 1 ls c + (T - U 1 ls) * z) // (T * 1)
-  unfolding overHeld preliminaryBy mass mean passing
+module _ (ls : List Lift) (t : Preliminary → Bool) (c : ℕ → ℕ) (z : ℕ) (hc : (a : ℕ) → a < length ls → indicator (t (preliminaryAt a)) ≡ c a) (hz : indicator (t noPreliminary) ≡ z) where
+  one-mass : (T : ℕ) → 0 < T → meanOverHeld (One T) ls (λ h. mass t (preliminary (One T) ls h)) ≈ (passing 1 ls c + (T - U 1 ls) * z) // (T * 1)
+  unfolding meanOverHeld preliminaryBy mass mean passing
   one-mass T p =
       initial-same 1 T ls p (λ x. mass t (preliminary (One T) ls (heldOf x elsewhere))) {x = c} {y = z} {R = 1} (omega arith) (λ i l. rw (hc i l) (≈-refl (omega arith))) (rw hz (≈-refl (omega arith)))
 
-  module _ (T₁ T₂ : ℕ) (s₁ : Sends 1 T₁ ls) (s₂ : Sends 2 T₂ ls) where
-    two-mass : overHeld (Two T₁ T₂) ls (λ h. mass t (preliminary (Two T₁ T₂) ls h))
+  module _ (T₁ T₂ : ℕ) (s₁ : IsDonor 1 T₁ ls) (s₂ : IsDonor 2 T₂ ls) where
+    two-mass : meanOverHeld (Two T₁ T₂) ls (λ h. mass t (preliminary (Two T₁ T₂) ls h))
         ≈ ((U 1 ls * T₂ + U 2 ls * (T₁ - U 1 ls)) * (T₂ * passing 1 ls c + T₁ * passing 2 ls c) + (T₁ - U 1 ls) * (T₂ - U 2 ls) * z * (U 1 ls * T₂ + U 2 ls * T₁))
         // (T₁ * (T₂ * (U 1 ls * T₂ + U 2 ls * T₁)))
-    unfolding overHeld preliminaryBy mass mean D firstOdds
+    unfolding meanOverHeld preliminaryBy mass mean D firstOdds
     two-mass =
         let u₁ = U 1 ls in let u₂ = U 2 ls in let E₁ : ℕ = T₁ - u₁ in let E₂ : ℕ = T₂ - u₂ in
         let C₁ = passing 1 ls c in let C₂ = passing 2 ls c in
@@ -81,30 +81,30 @@ module _ (ls : List Lift) (t : Preliminary → Bool) (c : ℕ → ℕ) (z : ℕ)
         let p : 0 < d = omega (arith, mul-pos (s₁ .some) p₂) in
         let r : d - u₂ * T₁ ≡ u₁ * T₂ = omega arith in
         let F : Held → Fraction = λ h. mass t (preliminary (Two T₁ T₂) ls h) in
-        let inner : (a : ℕ) → a < length ls → overInitial 2 T₂ ls (λ y. F (heldOf (here a) y)) ≈ (u₁ * T₂ * C₂ + (u₂ * (u₂ * T₁) + E₂ * d) * c a) // (T₂ * d)
+        let inner : (a : ℕ) → a < length ls → meanOverInitial 2 T₂ ls (λ y. F (heldOf (here a) y)) ≈ (u₁ * T₂ * C₂ + (u₂ * (u₂ * T₁) + E₂ * d) * c a) // (T₂ * d)
         = λ a l. ≈-num (ap (λ s. s + E₂ * (c a * d)) (passing-mixed 2 ls c (u₂ * T₁ * c a) (u₁ * T₂)) ∙ omega arith)
         (initial-same 2 T₂ ls p₂ (λ y. F (heldOf (here a) y)) {x = λ b. u₂ * T₁ * c a + u₁ * T₂ * c b} {y = c a * d} {R = d} p
-        (λ b k. rw (r, hc a l, hc b k) at (both (λ i. t (unitAt i)) (u₂ * T₁) d a b p (omega arith)))
+        (λ b k. rw (r, hc a l, hc b k) at (both (λ i. t (preliminaryAt i)) (u₂ * T₁) d a b p (omega arith)))
         (rw (hc a l) (scaled p))) in
-        let outer : overInitial 2 T₂ ls (λ y. F (heldOf elsewhere y)) ≈ (u₂ * 0 + d * C₂ + E₂ * (z * d)) // (T₂ * d)
+        let outer : meanOverInitial 2 T₂ ls (λ y. F (heldOf elsewhere y)) ≈ (u₂ * 0 + d * C₂ + E₂ * (z * d)) // (T₂ * d)
         = ≈-num (ap (λ s. s + E₂ * (z * d)) (passing-mixed 2 ls c 0 d))
         (initial-same 2 T₂ ls p₂ (λ y. F (heldOf elsewhere y)) {x = λ b. 0 + d * c b} {y = z * d} {R = d} p
         (λ b k. rw (hc b k) (record { cross = omega arith; left = omega arith; right = p })) (rw hz (scaled p))) in
         ≈-num (ap (λ s. s + E₁ * (u₂ * 0 + d * C₂ + E₂ * (z * d))) (passing-mixed 1 ls c (u₁ * T₂ * C₂) (u₂ * (u₂ * T₁) + E₂ * d))
         ∙ two-identity u₁ E₁ u₂ E₂ C₁ C₂ z T₁ T₂ (omega (arith, s₁ .part)) (omega (arith, s₂ .part)))
-        (initial-same 1 T₁ ls p₁ (λ x. overInitial 2 T₂ ls (λ y. F (heldOf x y))) {x = λ a. u₁ * T₂ * C₂ + (u₂ * (u₂ * T₁) + E₂ * d) * c a} {R = T₂ * d} (mul-pos p₂ p) inner outer)
+        (initial-same 1 T₁ ls p₁ (λ x. meanOverInitial 2 T₂ ls (λ y. F (heldOf x y))) {x = λ a. u₁ * T₂ * C₂ + (u₂ * (u₂ * T₁) + E₂ * d) * c a} {R = T₂ * d} (mul-pos p₂ p) inner outer)
 
 -- ---- the preliminary lift, given that a held lift is here: X of Z
 
 -- the test passes for the lift at place i alone
 pub record Only (n i : ℕ) (t : Preliminary → Bool) : Type 0 where
-  pub places : (a : ℕ) → a < n → indicator (t (unitAt a)) ≡ indicator (eqb a i)
-  pub nobodys : indicator (t noUnit) ≡ 0
+  pub places : (a : ℕ) → a < n → indicator (t (preliminaryAt a)) ≡ indicator (eqb a i)
+  pub nobodys : indicator (t noPreliminary) ≡ 0
 
 -- the test passes for all places alike, and for nobody
 pub record Alike (n x z : ℕ) (t : Preliminary → Bool) : Type 0 where
-  pub places : (a : ℕ) → a < n → indicator (t (unitAt a)) ≡ x
-  pub nobodys : indicator (t noUnit) ≡ z
+  pub places : (a : ℕ) → a < n → indicator (t (preliminaryAt a)) ≡ x
+  pub nobodys : indicator (t noPreliminary) ≡ z
 
 -- a held lift is here with the mass X / Z, elsewhere with Y / Z, and given that it is here, each lift is preliminary with its old weight over D × S
 pub record Known (ds : Donors) (ls : List Lift) (X Y Z : ℕ) : Type 0 where
@@ -112,19 +112,19 @@ pub record Known (ds : Donors) (ls : List Lift) (X Y Z : ℕ) : Type 0 where
   pub positive : 0 < Z
   pub present : 0 < X
   pub lift : (t : Preliminary → Bool) (i : ℕ) → i < length ls → Only (length ls) i t
-      → overHeld ds ls (λ h. mass t (preliminary ds ls h)) ≈ X // Z ⊗ oldWeight ds ls (liftAt ls i) // (D ds ls * S ls)
-  pub some : (t : Preliminary → Bool) → Alike (length ls) 1 0 t → overHeld ds ls (λ h. mass t (preliminary ds ls h)) ≈ X // Z
-  pub none : (t : Preliminary → Bool) → Alike (length ls) 0 1 t → overHeld ds ls (λ h. mass t (preliminary ds ls h)) ≈ Y // Z
+      → meanOverHeld ds ls (λ h. mass t (preliminary ds ls h)) ≈ X // Z ⊗ oldWeight ds ls (liftAt ls i) // (D ds ls * S ls)
+  pub some : (t : Preliminary → Bool) → Alike (length ls) 1 0 t → meanOverHeld ds ls (λ h. mass t (preliminary ds ls h)) ≈ X // Z
+  pub none : (t : Preliminary → Bool) → Alike (length ls) 0 1 t → meanOverHeld ds ls (λ h. mass t (preliminary ds ls h)) ≈ Y // Z
 
-passing-only : (k : ℕ) (ls : List Lift) (i : ℕ) → i < length ls → passing k ls (λ a. indicator (eqb a i)) ≡ sent k (liftAt ls i)
+passing-only : (k : ℕ) (ls : List Lift) (i : ℕ) → i < length ls → passing k ls (λ a. indicator (eqb a i)) ≡ measureFrom k (liftAt ls i)
 unfolding passing
-passing-only k ls i l = Σ-one (length ls) i (λ a. sent k (liftAt ls a)) l
+passing-only k ls i l = Σ-one (length ls) i (λ a. measureFrom k (liftAt ls a)) l
 
 passing-all : (k : ℕ) (ls : List Lift) (x : ℕ) → passing k ls (λ a. x) ≡ U k ls * x
 unfolding passing
 passing-all = sent-all
 
-pub known-one : (T : ℕ) (ls : List Lift) → 0 < S ls → Sends 1 T ls → Known (One T) ls (U 1 ls) (T - U 1 ls) T
+pub known-one : (T : ℕ) (ls : List Lift) → 0 < S ls → IsDonor 1 T ls → Known (One T) ls (U 1 ls) (T - U 1 ls) T
 unfolding D oldWeight
 known-one T ls q s =
     let p : 0 < T = omega (arith, s .some, s .part) in
@@ -149,7 +149,7 @@ cross-some X Y T₁ T₂ a b = omega arith
 cross-none : (X Y d T₁ T₂ a b : ℕ) → (X * (T₂ * (a * 0) + T₁ * (b * 0)) + Y * 1 * d) * (T₁ * T₂) ≡ Y * (T₁ * (T₂ * d))
 cross-none X Y d T₁ T₂ a b = omega arith
 
-pub known-two : (T₁ T₂ : ℕ) (ls : List Lift) → 0 < S ls → (s₁ : Sends 1 T₁ ls) (s₂ : Sends 2 T₂ ls)
+pub known-two : (T₁ T₂ : ℕ) (ls : List Lift) → 0 < S ls → (s₁ : IsDonor 1 T₁ ls) (s₂ : IsDonor 2 T₂ ls)
     → Known (Two T₁ T₂) ls (U 1 ls * T₂ + U 2 ls * (T₁ - U 1 ls)) ((T₁ - U 1 ls) * (T₂ - U 2 ls)) (T₁ * T₂)
 unfolding D oldWeight
 known-two T₁ T₂ ls q s₁ s₂ =

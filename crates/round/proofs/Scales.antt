@@ -12,9 +12,9 @@ use lib.Dec.{eqb}
 use borrow.Author.Tests.{eqb-true}
 use Rattle.probability.specs.Sum.{total}
 use Rattle.probability.proofs.Sums.{total-map, total-mul}
-use Rattle.round.specs.Round.{S, U, sent, D, oldWeight, newWeight, Weight, weights, growth, G, Fitting}
-use Rattle.round.specs.Choice.{unitAt, drawPlace, fresh, firstOdds, keyfitz, select}
-use Rattle.round.specs.Rows.{HasSums, Multipliable, scaled, scaleOf, wholly, Room, Balanced, capacity, Bounded, Stands, Callable}
+use Rattle.round.specs.Round.{S, U, measureFrom, D, oldWeight, newWeight, Weight, weights, growth, G, WellPosed}
+use Rattle.round.specs.Choice.{preliminaryAt, drawPlace, fresh, firstOdds, keyfitz, select}
+use Rattle.round.specs.Rows.{HasSums, ProductsFit, scaled, scaleOf, wholly, WeightsFit, Balanced, capacity, Bounded, Stands, Callable}
 use Rattle.round.specs.declared.Donors.{Donors}
 use Rattle.round.specs.declared.Donors.the-variants.{None, One, Two}
 use Rattle.round.specs.declared.Held.{Held}
@@ -27,7 +27,7 @@ use Rattle.round.proofs.WeightSums.{old-sum, new-sum, two-positive, wei
 -- ---- the multipliers of a round
 
 -- a donor is 1 or 2 or neither
-multiplied : (s : Scale) (l : Lift) → scaled s l .old ≡ sent 1 l * s .first + sent 2 l * s .second
+multiplied : (s : Scale) (l : Lift) → scaled s l .old ≡ measureFrom 1 l * s .first + measureFrom 2 l * s .second
 multiplied s l = go (l .donor) (eqb (l .donor) 1) refl (eqb (l .donor) 2) refl
   where
     go : (d : ℕ) (p : Bool) → eqb d 1 ≡ p → (q : Bool) → eqb d 2 ≡ q
@@ -55,7 +55,7 @@ scale-balanced : (ds : Donors) {ls : List Lift} {s : Scale} → s ≡ scaleOf ds
 scale-balanced ds {ls} e =
     rw e (record { sums = omega (arith, scaled-sum ds ls (λ w. w .old), scaled-sum ds ls (λ w. w .new), old-sum ds ls, new-sum ds ls) })
 
-scale-room : {ds : Donors} {ls : List Lift} {s : Scale} → s ≡ scaleOf ds ls → Fitting ds ls → Bounded ds ls → Room s ls
+scale-room : {ds : Donors} {ls : List Lift} {s : Scale} → s ≡ scaleOf ds ls → WellPosed ds ls → Bounded ds ls → WeightsFit s ls
 scale-room {ds} {ls} e f b =
     let w = weight-bound ds ls f b in
     rw e (record { olds = omega (arith, scaled-sum ds ls (λ w. w .old), old-sum ds ls); news = omega (arith, scaled-sum ds ls (λ w. w .new), new-sum ds ls) })
@@ -74,17 +74,17 @@ whole-G : (ls : List Lift) → G (map (scaled wholly) ls) ≡ S ls
 unfolding G S
 whole-G ls = ap total (whole-growth ls)
 
-pub whole-room : {ds : Donors} {ls : List Lift} → Bounded ds ls → Room wholly ls
+pub whole-room : {ds : Donors} {ls : List Lift} → Bounded ds ls → WeightsFit wholly ls
 unfolding S
 whole-room {ls = ls} b = record { olds = omega (arith, whole-old ls); news = omega (arith, total-mul (λ l. l .new) 1 ls, b .new) }
 
-pub whole-positive : {ds : Donors} {ls : List Lift} → Fitting ds ls → 1 ≤ G (map (scaled wholly) ls)
+pub whole-positive : {ds : Donors} {ls : List Lift} → WellPosed ds ls → 1 ≤ G (map (scaled wholly) ls)
 whole-positive {ls = ls} f = rw (whole-G ls) (f .positive)
 
 -- ---- the sums of the code
 
 -- with two donors each sum and each product has room
-module _ {ds : Donors} {T₁ T₂ : ℕ} (t : Sums) (e : ds ≡ Two T₁ T₂) (m : Multipliable ds t) where
+module _ {ds : Donors} {T₁ T₂ : ℕ} (t : Sums) (e : ds ≡ Two T₁ T₂) (m : ProductsFit ds t) where
   small : ((T₁ ≤ capacity) × (T₂ ≤ capacity)) × ((t .new ≤ capacity) × (t .first ≤ capacity) × (t .second ≤ capacity))
   small = rw e at m
 
@@ -103,7 +103,7 @@ module _ {ds : Donors} {T₁ T₂ : ℕ} (t : Sums) (e : ds ≡ Two T₁ T₂) (
   pub second-times : Fits w64 (T₂ * t .new)
   second-times = omega (arith, mul-le-mul (small .0 .1) (small .1 .0))
 
-pub multipliable : (ds : Donors) {ls : List Lift} (t : Sums) → HasSums ds ls t → Fitting ds ls → Bounded ds ls → Multipliable ds t
+pub multipliable : (ds : Donors) {ls : List Lift} (t : Sums) → HasSums ds ls t → WellPosed ds ls → Bounded ds ls → ProductsFit ds t
 multipliable None t e f b = tt
 multipliable (One T) t e f b = tt
 multipliable (Two T₁ T₂) t e f b =
@@ -127,7 +127,7 @@ module _ {ds : Donors} (t : Sums) (ls : List Lift) (u : HasSums ds ls t) where
   scale-two e = let k = rw e at u in rw (e, k .0, k .1, k .2) (scales (omega arith) (omega arith))
 
 -- what came from a donor has room
-module _ {ds : Donors} {ls : List Lift} (f : Fitting ds ls) (b : Bounded ds ls) where
+module _ {ds : Donors} {ls : List Lift} (f : WellPosed ds ls) (b : Bounded ds ls) where
   pub one-came : {T : ℕ} → ds ≡ One T → U 1 ls ≤ 2 ^ 61
   one-came e = let g = rw e at f in let c = rw e at b in omega (arith, g .donate .part, c .old)
 
@@ -179,7 +179,7 @@ both-drawable {ds} {ls} e c = rw e (both-D ds ls c)
 
 -- all that an update asks
 pub updatable : {D : Donors} {ls : List Lift} {s : Scale} {h : Held} {i : ℕ} → s ≡ scaleOf D ls → Callable D ls h → i < length ls
-    → Room s ls × (Balanced s ls × (i < length ls))
+    → WeightsFit s ls × (Balanced s ls × (i < length ls))
 updatable {D} e c k = (scale-room e (c .fitting) (c .bounded), (scale-balanced D e, k))
 
 -- ---- the choice by the multipliers
@@ -187,6 +187,6 @@ updatable {D} e c k = (scale-room e (c .fitting) (c .bounded), (scale-balanced D
 pub fresh-scaled : (ls : List Lift) → fresh ls ≡ drawPlace (G (map (scaled wholly) ls)) (map growth (map (scaled wholly) ls)) false
 fresh-scaled ls = rw (whole-G, whole-growth)
 
-pub select-scaled : (ds : Donors) (ls : List Lift) (i : ℕ) → select ds ls (unitAt i) ≡ keyfitz (map (scaled (scaleOf ds ls)) ls) i
+pub select-scaled : (ds : Donors) (ls : List Lift) (i : ℕ) → select ds ls (preliminaryAt i) ≡ keyfitz (map (scaled (scaleOf ds ls)) ls) i
 unfolding select
 select-scaled ds ls i = rw weights-scaled

@@ -10,13 +10,13 @@ use lib.Dec.{ltb, eqb}
 use borrow.Author.Tests.{lt-ltb, le-ltb, ltb-true, eq-eqb, ne-eqb}
 use Rattle.probability.specs.Sum.{over}
 use Rattle.probability.specs.Fraction.{Fraction, _//_, _⊕_, _⊗_, _≈_, sum}
-use Rattle.probability.specs.Plan.{after, Every, Drawable, paths, weight, mass}
+use Rattle.probability.specs.Plan.{bind, Every, Drawable, paths, weight, mass}
 use Rattle.probability.proofs.Sums.{over-ext}
 use Rattle.probability.proofs.Fractions.{pos-left, ≈-refl, ≈-sym, ≈-trans, ⊕-≈, ⊗-≈, ⊗-assoc, sum-≈, sum-cut, sum-part}
 use Rattle.probability.proofs.Masses.{weighed, mass-after, mass-den, mass-hits, mean-classes, every-map, every-after}
 use Rattle.round.specs.Round.{liftAt, S, D, oldWeight, newWeight, weights, weightAt}
-use Rattle.round.specs.Choice.{Preliminary, noUnit, unitAt, selection, drawPlace, fresh, preliminaryBy, preliminary, keyfitz, select, plan}
-use Rattle.round.specs.Share.{overHeld, chooses, comes, any, share, preliminaryShare, UpdatesTheorem, SharesTheorem}
+use Rattle.round.specs.Choice.{Preliminary, noPreliminary, preliminaryAt, selection, drawPlace, fresh, preliminaryBy, preliminary, keyfitz, select, plan}
+use Rattle.round.specs.Share.{meanOverHeld, chooses, isPreliminary, hasPreliminary, roundShare, preliminaryShare, UpdatesTheorem, SharesTheorem}
 use Rattle.round.specs.declared.Donors.{Donors}
 use Rattle.round.specs.declared.Donors.the-variants.{None, One, Two}
 use Rattle.round.specs.declared.Held.{Held}
@@ -35,9 +35,9 @@ updates ws N p e f = record {
       let t = chooses j in
       let ready : (i : ℕ) → i < length ws → Drawable (keyfitz ws i) = drawable ws N p e f in
       let den : (i : ℕ) → i < length ws → 0 < mass t (keyfitz ws i) .den = λ i k. mass-den (λ _. Unit {0}) t (keyfitz ws i) (ready i k) in
-      let d : Drawable (after q (keyfitz ws)) = every-after (λ i. i < length ws) (λ _. Unit {0}) q (keyfitz ws) every ready in
+      let d : Drawable (bind q (keyfitz ws)) = every-after (λ i. i < length ws) (λ _. Unit {0}) q (keyfitz ws) every ready in
       let c : Drawable q = every-map {P = λ i. i < length ws} {Q = λ _. Unit {0}} (λ _ _. tt) q every in
-      ≈-trans (weighed t (after q (keyfitz ws)) d .agree)
+      ≈-trans (weighed t (bind q (keyfitz ws)) d .agree)
       (rw (mass-after t q (keyfitz ws))
       (≈-trans (mean-classes (λ i. i) (λ i. mass t (keyfitz ws i)) (λ i. mass t (keyfitz ws i)) (length ws) q den
       (every-map {P = λ i. i < length ws} {Q = λ i. (i < length ws) × (mass t (keyfitz ws i) ≈ mass t (keyfitz ws i))} (λ i k. (k, ≈-refl (den i k))) q every))
@@ -64,11 +64,11 @@ length-weights ds ls = length-map ls _
 -- ---- classes of the preliminary lift: its place, or n for nobody
 
 class : ℕ → Preliminary → ℕ
-class n noUnit = n
-class n (unitAt i) = i
+class n noPreliminary = n
+class n (preliminaryAt i) = i
 
 named : ℕ → ℕ → Preliminary
-named n i = cond (ltb i n) (unitAt i) noUnit
+named n i = cond (ltb i n) (preliminaryAt i) noPreliminary
 
 class-only : (n i : ℕ) → i < n → Only n i (λ a. eqb (class n a) i)
 unfolding class
@@ -79,11 +79,11 @@ unfolding class
 class-none n = record { places = λ a k. rw (ne-eqb a n (omega arith)); nobodys = rw (eq-eqb n n refl) }
 
 -- a place below n, or nobody
-abbrev pub Placed : ℕ → Preliminary → Type 0
-Placed n noUnit = Unit {0}
-Placed n (unitAt i) = i < n
+abbrev pub PreliminaryPlaced : ℕ → Preliminary → Type 0
+PreliminaryPlaced n noPreliminary = Unit {0}
+PreliminaryPlaced n (preliminaryAt i) = i < n
 
-pub every-preliminary : (ds : Donors) (ls : List Lift) (n : ℕ) → 0 < D ds ls → (h : Held) → Inside n h → Every (Placed n) (preliminary ds ls h)
+pub every-preliminary : (ds : Donors) (ls : List Lift) (n : ℕ) → 0 < D ds ls → (h : Held) → Inside n h → Every (PreliminaryPlaced n) (preliminary ds ls h)
 unfolding Every preliminaryBy
 every-preliminary ds ls n p Neither u = tt
 every-preliminary ds ls n p (Single i) u = u
@@ -124,15 +124,15 @@ pub every-update : (ds : Donors) (ls : List Lift) → 0 < S ls → 0 < D ds ls �
 every-update ds ls q p i l =
     drawable (weights ds ls) (D ds ls * S ls) (mul-pos p q) (old-sum ds ls) (new-sum ds ls) i (rw (length-weights ds ls) l)
 
-pub every-select : (ds : Donors) (ls : List Lift) → 0 < S ls → 0 < D ds ls → (a : Preliminary) → Placed (length ls) a → Drawable (select ds ls a)
+pub every-select : (ds : Donors) (ls : List Lift) → 0 < S ls → 0 < D ds ls → (a : Preliminary) → PreliminaryPlaced (length ls) a → Drawable (select ds ls a)
 unfolding select
-every-select ds ls q p noUnit l = every-fresh ls q
-every-select ds ls q p (unitAt i) l = every-update ds ls q p i l
+every-select ds ls q p noPreliminary l = every-fresh ls q
+every-select ds ls q p (preliminaryAt i) l = every-update ds ls q p i l
 
 pub every-plan : (ds : Donors) (ls : List Lift) → 0 < S ls → 0 < D ds ls → (h : Held) → Inside (length ls) h → Drawable (plan ds ls h)
 unfolding plan
 every-plan ds ls q p h u =
-    every-after (Placed (length ls)) (λ _. Unit {0}) (preliminary ds ls h) (select ds ls) (every-preliminary ds ls (length ls) p h u) (every-select ds ls q p)
+    every-after (PreliminaryPlaced (length ls)) (λ _. Unit {0}) (preliminary ds ls h) (select ds ls) (every-preliminary ds ls (length ls) p h u) (every-select ds ls q p)
 
 module _ (ds : Donors) (ls : List Lift) (q : 0 < S ls) (p : 0 < D ds ls) (sums : Sums ds) where
   -- the mass of what follows class i
@@ -151,15 +151,15 @@ module _ (ds : Donors) (ls : List Lift) (q : 0 < S ls) (p : 0 < D ds ls) (sums :
   unfolding follows named
   follows-den j i l = go (ltb i (length ls)) refl
     where
-      go : (b : Bool) → ltb i (length ls) ≡ b → 0 < mass (chooses j) (select ds ls (cond b (unitAt i) noUnit)) .den
-      go true e = mass-den (λ _. Unit {0}) (chooses j) (select ds ls (unitAt i)) (every-select ds ls q p (unitAt i) (ltb-true i (length ls) e))
-      go false e = mass-den (λ _. Unit {0}) (chooses j) (select ds ls noUnit) (every-select ds ls q p noUnit tt)
+      go : (b : Bool) → ltb i (length ls) ≡ b → 0 < mass (chooses j) (select ds ls (cond b (preliminaryAt i) noPreliminary)) .den
+      go true e = mass-den (λ _. Unit {0}) (chooses j) (select ds ls (preliminaryAt i)) (every-select ds ls q p (preliminaryAt i) (ltb-true i (length ls) e))
+      go false e = mass-den (λ _. Unit {0}) (chooses j) (select ds ls noPreliminary) (every-select ds ls q p noPreliminary tt)
 
-  matched : (j : ℕ) (a : Preliminary) → Placed (length ls) a
+  matched : (j : ℕ) (a : Preliminary) → PreliminaryPlaced (length ls) a
       → (class (length ls) a < length ls + 1) × (mass (chooses j) (select ds ls a) ≈ follows j (class (length ls) a))
   unfolding class select
-  matched j noUnit l = (omega arith, rw (follows-none j) (≈-refl (mass-den (λ _. Unit {0}) (chooses j) (fresh ls) (every-select ds ls q p noUnit tt))))
-  matched j (unitAt i) l = (omega arith, rw (follows-place j i l) (≈-refl (mass-den (λ _. Unit {0}) (chooses j) (keyfitz (weights ds ls) i) (every-update ds ls q p i l))))
+  matched j noPreliminary l = (omega arith, rw (follows-none j) (≈-refl (mass-den (λ _. Unit {0}) (chooses j) (fresh ls) (every-select ds ls q p noPreliminary tt))))
+  matched j (preliminaryAt i) l = (omega arith, rw (follows-place j i l) (≈-refl (mass-den (λ _. Unit {0}) (chooses j) (keyfitz (weights ds ls) i) (every-update ds ls q p i l))))
 
   -- by total probability over the preliminary lift
   plan-mix : (j : ℕ) (h : Held) → Inside (length ls) h
@@ -170,17 +170,17 @@ module _ (ds : Donors) (ls : List Lift) (q : 0 < S ls) (p : 0 < D ds ls) (sums :
       ≈-trans (weighed (chooses j) (plan ds ls h) (every-plan ds ls q p h u) .agree)
       (rw (mass-after (chooses j) (preliminary ds ls h) (select ds ls))
       (mean-classes (class n) (λ a. mass (chooses j) (select ds ls a)) (follows j) (n + 1) (preliminary ds ls h) (follows-den j)
-      (every-map {P = Placed n} {Q = λ a. (class n a < n + 1) × (mass (chooses j) (select ds ls a) ≈ follows j (class n a))} (matched j) (preliminary ds ls h) every)))
+      (every-map {P = PreliminaryPlaced n} {Q = λ a. (class n a < n + 1) × (mass (chooses j) (select ds ls a) ≈ follows j (class n a))} (matched j) (preliminary ds ls h) every)))
 
-  plan-whole : overHeld ds ls (λ h. weight (λ _. true) (paths (plan ds ls h))) ≈ overHeld ds ls (λ h. 1 // 1)
+  plan-whole : meanOverHeld ds ls (λ h. weight (λ _. true) (paths (plan ds ls h))) ≈ meanOverHeld ds ls (λ h. 1 // 1)
   plan-whole = held-≈ ds ls sums _ _ (λ h u. weighed (λ _. true) (plan ds ls h) (every-plan ds ls q p h u) .whole)
 
   -- the mass of each class, over the initial selections
   classed : ℕ → Fraction
-  classed i = overHeld ds ls (λ h. mass (λ a. eqb (class (length ls) a) i) (preliminary ds ls h))
+  classed i = meanOverHeld ds ls (λ h. mass (λ a. eqb (class (length ls) a) i) (preliminary ds ls h))
 
-  share-mix : (j : ℕ) → share ds ls j ≈ sum (length ls + 1) (λ i. classed i ⊗ follows j i)
-  unfolding share classed
+  share-mix : (j : ℕ) → roundShare ds ls j ≈ sum (length ls + 1) (λ i. classed i ⊗ follows j i)
+  unfolding roundShare classed
   share-mix j =
       ≈-trans (held-≈ ds ls sums _ _ (plan-mix j))
       (held-mix ds ls sums (length ls + 1) (λ h i. mass (λ a. eqb (class (length ls) a) i) (preliminary ds ls h)) (follows j)
@@ -213,35 +213,35 @@ module _ (ds : Donors) (ls : List Lift) (q : 0 < S ls) (p : 0 < D ds ls) (sums :
         let r′ : classed (n + 0) ⊗ follows j (n + 0) ≈ Y // Z ⊗ liftAt ls j .new // S ls = rw e r in
         ≈-trans (first-only (λ i. classed (n + i) ⊗ follows j (n + i)) (r′ .left)) r′
 
-    pub shared : (j : ℕ) → j < length ls → share ds ls j ≈ liftAt ls j .new // S ls
+    pub shared : (j : ℕ) → j < length ls → roundShare ds ls j ≈ liftAt ls j .new // S ls
     shared j l =
         ≈-trans (share-mix j)
         (rw (sum-cut (length ls) 1 (λ i. classed i ⊗ follows j i))
         (≈-trans (⊕-≈ (kept-here j l) (fresh-here j l)) (joined X Y Z (liftAt ls j .new) (D ds ls) (S ls) (k .whole) (k .positive) p q)))
 
-    preliminary-mass : (t : Preliminary → Bool) → preliminaryShare ds ls t ≈ overHeld ds ls (λ h. mass t (preliminary ds ls h))
+    preliminary-mass : (t : Preliminary → Bool) → preliminaryShare ds ls t ≈ meanOverHeld ds ls (λ h. mass t (preliminary ds ls h))
     unfolding preliminaryShare
     preliminary-mass t = held-≈ ds ls sums _ _ (λ h _. weighed t (preliminary ds ls h) (drawable-preliminary ds ls p h) .agree)
 
-    pub present : 0 < preliminaryShare ds ls any .num
+    pub present : 0 < preliminaryShare ds ls hasPreliminary .num
     present =
-        let e = ≈-trans (preliminary-mass any) (k .some any (record { places = λ _ _. refl; nobodys = refl })) in
-        pos-left (preliminaryShare ds ls any .num) Z (rw (e .cross) (mul-pos (k .present) (e .left)))
+        let e = ≈-trans (preliminary-mass hasPreliminary) (k .some hasPreliminary (record { places = λ _ _. refl; nobodys = refl })) in
+        pos-left (preliminaryShare ds ls hasPreliminary .num) Z (rw (e .cross) (mul-pos (k .present) (e .left)))
 
     pub preliminaries : (i : ℕ) → i < length ls
-        → preliminaryShare ds ls (comes i) ≈ preliminaryShare ds ls any ⊗ oldWeight ds ls (liftAt ls i) // (D ds ls * S ls)
+        → preliminaryShare ds ls (isPreliminary i) ≈ preliminaryShare ds ls hasPreliminary ⊗ oldWeight ds ls (liftAt ls i) // (D ds ls * S ls)
     preliminaries i l =
-        ≈-trans (≈-trans (preliminary-mass (comes i)) (k .lift (comes i) i l (record { places = λ _ _. refl; nobodys = refl })))
-        (⊗-≈ (≈-sym (≈-trans (preliminary-mass any) (k .some any (record { places = λ _ _. refl; nobodys = refl })))) (≈-refl (mul-pos p q)))
+        ≈-trans (≈-trans (preliminary-mass (isPreliminary i)) (k .lift (isPreliminary i) i l (record { places = λ _ _. refl; nobodys = refl })))
+        (⊗-≈ (≈-sym (≈-trans (preliminary-mass hasPreliminary) (k .some hasPreliminary (record { places = λ _ _. refl; nobodys = refl })))) (≈-refl (mul-pos p q)))
 
 -- ---- every round
 
-none-shared : (ls : List Lift) → 0 < S ls → (j : ℕ) → j < length ls → share None ls j ≈ liftAt ls j .new // S ls
-unfolding share overHeld plan preliminaryBy after select
+none-shared : (ls : List Lift) → 0 < S ls → (j : ℕ) → j < length ls → roundShare None ls j ≈ liftAt ls j .new // S ls
+unfolding roundShare meanOverHeld plan preliminaryBy bind select
 none-shared ls q j l = ≈-trans (weighed (chooses j) (fresh ls) (every-fresh ls q) .agree) (mass-fresh ls j l q)
 
-none-whole : (ls : List Lift) → 0 < S ls → overHeld None ls (λ h. weight (λ _. true) (paths (plan None ls h))) ≈ 1 // 1
-unfolding overHeld plan preliminaryBy after select
+none-whole : (ls : List Lift) → 0 < S ls → meanOverHeld None ls (λ h. weight (λ _. true) (paths (plan None ls h))) ≈ 1 // 1
+unfolding meanOverHeld plan preliminaryBy bind select
 none-whole ls q = weighed (λ _. true) (fresh ls) (every-fresh ls q) .whole
 
 pub shares : SharesTheorem

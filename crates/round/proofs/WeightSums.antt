@@ -7,7 +7,7 @@ use native.Mathlib.Omega.{arith}
 use lib.ListN.{length}
 use Rattle.probability.specs.Sum.{total}
 use Rattle.probability.proofs.Sums.{total-map, total-mul, total-add, map-le, totalBy-map}
-use Rattle.round.specs.Round.{S, sent, U, D, oldWeight, newWeight, Weight, weights, weightAt, G, Sends, Donate, Fitting}
+use Rattle.round.specs.Round.{S, measureFrom, U, D, oldWeight, newWeight, Weight, weights, weightAt, G, IsDonor, AreDonors, WellPosed}
 use Rattle.round.specs.Rows.{capacity, Bounded, SumsBounded}
 use Rattle.round.specs.declared.Donors.{Donors}
 use Rattle.round.specs.declared.Donors.the-variants.{None, One, Two}
@@ -20,17 +20,17 @@ loss w = w .old - w .new
 -- ---- both weights sum to D × S
 
 -- U by the lifts' own parts
-pub U-sum : (k : ℕ) (ls : List Lift) → U k ls ≡ total (map (sent k) ls)
+pub U-sum : (k : ℕ) (ls : List Lift) → U k ls ≡ total (map (measureFrom k) ls)
 unfolding U
 U-sum k ls = totalBy-map (λ l. l .donor) (λ l. l .old) k ls
 
 old-total : (ds : Donors) (ls : List Lift) → total (map (oldWeight ds ls) ls) ≡ D ds ls * S ls
 unfolding oldWeight D
 old-total None ls = total-mul (λ _. 0) 0 ls ∙ omega arith
-old-total (One T) ls = rw (U-sum 1 ls) (total-mul (sent 1) (S ls) ls)
+old-total (One T) ls = rw (U-sum 1 ls) (total-mul (measureFrom 1) (S ls) ls)
 old-total (Two T₁ T₂) ls =
-    rw (U-sum 1 ls, U-sum 2 ls) (total-mul (λ l. sent 1 l * T₂ + sent 2 l * T₁) (S ls) ls
-    ∙ ap (λ t. t * S ls) (total-add (λ l. sent 1 l * T₂) (λ l. sent 2 l * T₁) ls ∙ ap₂ _+_ (total-mul (sent 1) T₂ ls) (total-mul (sent 2) T₁ ls)))
+    rw (U-sum 1 ls, U-sum 2 ls) (total-mul (λ l. measureFrom 1 l * T₂ + measureFrom 2 l * T₁) (S ls) ls
+    ∙ ap (λ t. t * S ls) (total-add (λ l. measureFrom 1 l * T₂) (λ l. measureFrom 2 l * T₁) ls ∙ ap₂ _+_ (total-mul (measureFrom 1) T₂ ls) (total-mul (measureFrom 2) T₁ ls)))
 
 pub old-sum : (ds : Donors) (ls : List Lift) → total (map (λ w. w .old) (weights ds ls)) ≡ D ds ls * S ls
 unfolding weights
@@ -63,15 +63,15 @@ unfolding G total
 G-le [] = omega arith
 G-le (w ∷ ws) = omega (arith, G-le ws)
 
-pub one-positive : {T : ℕ} {ls : List Lift} → Sends 1 T ls → 0 < D (One T) ls
+pub one-positive : {T : ℕ} {ls : List Lift} → IsDonor 1 T ls → 0 < D (One T) ls
 unfolding D
 one-positive s = s .some
 
-pub two-positive : {T₁ T₂ : ℕ} {ls : List Lift} → Sends 1 T₁ ls → Sends 2 T₂ ls → 0 < D (Two T₁ T₂) ls
+pub two-positive : {T₁ T₂ : ℕ} {ls : List Lift} → IsDonor 1 T₁ ls → IsDonor 2 T₂ ls → 0 < D (Two T₁ T₂) ls
 unfolding D
 two-positive {T₁} {T₂} {ls} s t = omega (arith, mul-pos {m = U 1 ls} {n = T₂} (s .some) (omega (arith, t .some, t .part)))
 
-pub D-bound : (ds : Donors) (ls : List Lift) → Donate ds ls → SumsBounded ds → D ds ls ≤ 2 ^ 41
+pub D-bound : (ds : Donors) (ls : List Lift) → AreDonors ds ls → SumsBounded ds → D ds ls ≤ 2 ^ 41
 unfolding D
 D-bound None ls d b = omega arith
 D-bound (One T) ls d b = omega (arith, d .part)
@@ -80,5 +80,5 @@ D-bound (Two T₁ T₂) ls d b =
     omega (arith, mul-le-mul u (b .1), mul-le-mul v (b .0))
 
 -- "at most 2^61"
-pub weight-bound : (ds : Donors) (ls : List Lift) → Fitting ds ls → Bounded ds ls → D ds ls * S ls ≤ 2 ^ 61
+pub weight-bound : (ds : Donors) (ls : List Lift) → WellPosed ds ls → Bounded ds ls → D ds ls * S ls ≤ 2 ^ 61
 weight-bound ds ls f b = omega (arith, mul-le-mul (D-bound ds ls (f .donate) (b .old)) (b .new))

@@ -4,7 +4,7 @@ use mathlib.Core.Bool.{Bool, true, false, cond}
 use mathlib.Core.List.{List, map}
 use lib.Dec.{leb, ltb, eqb}
 use Rattle.probability.specs.Interval.{pick}
-use Rattle.probability.specs.Plan.{Plan, done, draw, after}
+use Rattle.probability.specs.Plan.{Plan, done, draw, bind}
 use Rattle.draw.specs.Draw.{largest}
 use Rattle.draw.specs.Run.{Run, finished, short, run}
 use Rattle.round.specs.Round.{S, U, D, Weight, weights, weightAt, growth, G}
@@ -20,8 +20,8 @@ use Rattle.round.specs.declared.Selected.the-variants.{At, Short}
 
 -- the place of the preliminary lift, or that there is none
 pub data Preliminary : Type 0 where
-  noUnit : Preliminary
-  unitAt : ℕ → Preliminary
+  noPreliminary : Preliminary
+  preliminaryAt : ℕ → Preliminary
 
 -- the place of the chosen lift, and whether a preliminary lift was dropped for it
 pub record Selection : Type 0 where
@@ -48,9 +48,9 @@ firstOdds (Two T₁ T₂) ls = U 2 ls * T₁
 -- "One held lift here: it is preliminary. Two held lifts here: draw v below" a bound. "If v is less than" the odds, "donor 1's
 -- lift is preliminary, else donor 2's."
 unfoldable pub preliminaryBy : (bound odds : ℕ) → Held → Plan Preliminary
-preliminaryBy bound odds Neither = done noUnit
-preliminaryBy bound odds (Single i) = done (unitAt i)
-preliminaryBy bound odds (Both i j) = draw bound (λ v. done (unitAt (cond (ltb v odds) i j)))
+preliminaryBy bound odds Neither = done noPreliminary
+preliminaryBy bound odds (Single i) = done (preliminaryAt i)
+preliminaryBy bound odds (Both i j) = draw bound (λ v. done (preliminaryAt (cond (ltb v odds) i j)))
 
 -- "draw v below D. If v is less than U2 × T1"
 abbrev pub preliminary : Donors → List Lift → Held → Plan Preliminary
@@ -72,12 +72,12 @@ keyfitz ws i = stayOr (weightAt ws i) (done (selection i false)) (replacement ws
 
 -- what follows for each preliminary lift
 unfoldable pub select : Donors → List Lift → Preliminary → Plan Selection
-select ds ls noUnit = fresh ls
-select ds ls (unitAt i) = keyfitz (weights ds ls) i
+select ds ls noPreliminary = fresh ls
+select ds ls (preliminaryAt i) = keyfitz (weights ds ls) i
 
 -- the round's choice, from the round and its held lifts: neither, one or both here
 unfoldable pub plan : Donors → List Lift → Held → Plan Selection
-plan ds ls h = after (preliminary ds ls h) (select ds ls)
+plan ds ls h = bind (preliminary ds ls h) (select ds ls)
 
 -- whether the lift at place i is held
 abbrev pub isHeld : Held → ℕ → Bool
@@ -91,8 +91,8 @@ outcome h s = cond (isHeld h (s .place)) 1 (cond (s .dropped) 2 3)
 
 -- the answer to a run that gives the preliminary lift: none, or its place and the next position, or short
 abbrev pub proposed : Run Preliminary → Proposed
-proposed (finished vs noUnit next) = NoLift
-proposed (finished vs (unitAt i) next) = LiftAt i next
+proposed (finished vs noPreliminary next) = NoLift
+proposed (finished vs (preliminaryAt i) next) = LiftAt i next
 proposed short = Ended
 
 -- the answer to a run of the choice: the place, the outcome and the next position, or short

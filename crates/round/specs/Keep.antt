@@ -7,16 +7,16 @@ use lib.ListN.{length}
 use Rattle.probability.specs.Sum.{Σ, total}
 use Rattle.probability.specs.Fraction.{Fraction, _//_, _⊗_, _≈_, _≲_}
 use Rattle.probability.specs.Plan.{paths, weight}
-use Rattle.round.specs.Round.{S, U, D, Weight, weights, weightAt, Fitting}
+use Rattle.round.specs.Round.{S, U, D, Weight, weights, weightAt, WellPosed}
 use Rattle.round.specs.Choice.{plan, isHeld}
-use Rattle.round.specs.Share.{overHeld}
+use Rattle.round.specs.Share.{meanOverHeld}
 use Rattle.round.specs.declared.Donors.{Donors}
 use Rattle.round.specs.declared.Donors.the-variants.{One}
 use Rattle.round.specs.declared.Lift.{Lift}
 
 -- "what the ways weigh whose lift is held in their own marking"
-unfoldable pub kept : Donors → List Lift → Fraction
-kept ds ls = overHeld ds ls (λ h. weight (λ s. isHeld h (s .place)) (paths (plan ds ls h)))
+unfoldable pub roundKept : Donors → List Lift → Fraction
+roundKept ds ls = meanOverHeld ds ls (λ h. weight (λ s. isHeld h (s .place)) (paths (plan ds ls h)))
 
 -- a coupling of the old and the new weights: "A rule is any grid of whole tickets, 0 or more in each place, held lift by chosen lift,
 -- whose rows sum to the old weights times one whole number and whose columns sum to the new weights times the same."
@@ -57,4 +57,4 @@ pub record Best (ws : List Weight) (N : ℕ) (part : Fraction) : Type 0 where
 -- proved: of what the ways keep in every round that a fitting sheet gives "with one donor and U = T"; N is D × S
 abbrev pub KeepsTheorem : Type 0
 KeepsTheorem =
-    (T : ℕ) (ls : List Lift) → Fitting (One T) ls → U 1 ls ≡ T → Best (weights (One T) ls) (D (One T) ls * S ls) (kept (One T) ls)
+    (T : ℕ) (ls : List Lift) → WellPosed (One T) ls → U 1 ls ≡ T → Best (weights (One T) ls) (D (One T) ls * S ls) (roundKept (One T) ls)

@@ -4,8 +4,8 @@ use mathlib.Core.Path.{_≡_}
 use mathlib.Core.List.{List, map}
 use lib.ListN.{length}
 use Rattle.probability.specs.Sum.{total}
-use Rattle.probability.specs.Plan.{Every, Drawable, Within}
-use Rattle.round.specs.Round.{liftAt, S, D, weights, weightAt, G, Fitting}
+use Rattle.probability.specs.Plan.{Every, Drawable, DrawsAtMost}
+use Rattle.round.specs.Round.{liftAt, S, D, weights, weightAt, G, WellPosed}
 use Rattle.round.specs.Choice.{plan}
 use Rattle.round.specs.Rows.{Bounded, Stands}
 use Rattle.round.specs.declared.Donors.{Donors}
@@ -14,7 +14,7 @@ use Rattle.round.specs.declared.Held.the-variants.{Neither, Single, Both
 use Rattle.round.specs.declared.Lift.{Lift}
 
 -- the sums and products of a round within the sheet's bounds
-pub record Small (ds : Donors) (ls : List Lift) : Type 0 where
+pub record Fits64 (ds : Donors) (ls : List Lift) : Type 0 where
   pub scale : D ds ls ≤ 2 ^ 41
   -- "Both weights sum to D × S, at most 2^61."
   pub whole : D ds ls * S ls ≤ 2 ^ 61
@@ -37,13 +37,13 @@ pub record Lawful (ds : Donors) (ls : List Lift) : Type 0 where
   -- where a lift may be dropped there is a growth above zero
   pub grows : (i : ℕ) → i < length ls → weightAt (weights ds ls) i .new < weightAt (weights ds ls) i .old → 0 < G (weights ds ls)
   -- "A round takes at most three draws."
-  pub three : (h : Held) → Within 3 (plan ds ls h)
+  pub three : (h : Held) → DrawsAtMost 3 (plan ds ls h)
   -- every draw has a value
-  pub drawable : Fitting ds ls → (h : Held) → Stands ds h (length ls) → Drawable (plan ds ls h)
+  pub drawable : WellPosed ds ls → (h : Held) → Stands ds h (length ls) → Drawable (plan ds ls h)
   -- a lift of new measure 0 is never chosen, neither kept nor taken
   pub chosen : 0 < S ls → (h : Held) → Weighty ds ls h → Every (λ s. 0 < liftAt ls (s .place) .new) (plan ds ls h)
   -- within the sheet's bounds everything fits 64 bits
-  pub fits : Fitting ds ls → Bounded ds ls → Small ds ls
+  pub fits : WellPosed ds ls → Bounded ds ls → Fits64 ds ls
 
 -- proved: in every round
 abbrev pub LawsTheorem : Type 0

@@ -21,8 +21,8 @@ unfoldable pub U : ℕ → List Lift → ℕ
 U k ls = totalBy (λ l. l .donor) (λ l. l .old) k ls
 
 -- the old measure that a lift brings from donor k
-abbrev pub sent : ℕ → Lift → ℕ
-sent k l = valueBy (λ l. l .donor) (λ l. l .old) k l
+abbrev pub measureFrom : ℕ → Lift → ℕ
+measureFrom k l = valueBy (λ l. l .donor) (λ l. l .old) k l
 
 -- "One donor: D = U." "Two donors: D = U1 × T2 + U2 × T1." Without a donor there is none.
 unfoldable pub D : Donors → List Lift → ℕ
@@ -33,8 +33,8 @@ D (Two T₁ T₂) ls = U 1 ls * T₂ + U 2 ls * T₁
 -- "a lift's old weight is m × S"; with two donors "m × T(other donor) × S": a lift of old measure above 0 comes from one donor
 unfoldable pub oldWeight : Donors → List Lift → Lift → ℕ
 oldWeight None ls l = 0
-oldWeight (One T) ls l = sent 1 l * S ls
-oldWeight (Two T₁ T₂) ls l = (sent 1 l * T₂ + sent 2 l * T₁) * S ls
+oldWeight (One T) ls l = measureFrom 1 l * S ls
+oldWeight (Two T₁ T₂) ls l = (measureFrom 1 l * T₂ + measureFrom 2 l * T₁) * S ls
 
 -- "New weight is b × D."
 unfoldable pub newWeight : Donors → List Lift → Lift → ℕ
@@ -63,17 +63,17 @@ G ws = total (map growth ws)
 
 -- "Old round t is a donor of a new round if it sends it a lift of old measure above 0": U of donor k is above 0, and a part of
 -- the donor's whole old sum T
-pub record Sends (k T : ℕ) (ls : List Lift) : Type 0 where
+pub record IsDonor (k T : ℕ) (ls : List Lift) : Type 0 where
   pub some : 0 < U k ls
   pub part : U k ls ≤ T
 
 -- the donors of a round send it measure
-abbrev pub Donate : Donors → List Lift → Type 0
-Donate None ls = Unit {0}
-Donate (One T) ls = Sends 1 T ls
-Donate (Two T₁ T₂) ls = Sends 1 T₁ ls × Sends 2 T₂ ls
+abbrev pub AreDonors : Donors → List Lift → Type 0
+AreDonors None ls = Unit {0}
+AreDonors (One T) ls = IsDonor 1 T ls
+AreDonors (Two T₁ T₂) ls = IsDonor 1 T₁ ls × IsDonor 2 T₂ ls
 
 -- what every fitting sheet gives of a round: its sum is above 0 (refusal 9), and each donor sends it measure
-pub record Fitting (ds : Donors) (ls : List Lift) : Type 0 where
+pub record WellPosed (ds : Donors) (ls : List Lift) : Type 0 where
   pub positive : 0 < S ls
-  pub donate : Donate ds ls
+  pub donate : AreDonors ds ls

@@ -7,7 +7,7 @@ use lib.ListN.{length, getD}
 use lib.Dec.{ltb, eqb}
 use Rattle.probability.specs.Sum.{total}
 use Rattle.probability.specs.Pieces.{pieces}
-use Rattle.round.specs.Round.{S, U, D, oldWeight, Weight, Fitting}
+use Rattle.round.specs.Round.{S, U, D, oldWeight, Weight, WellPosed}
 use Rattle.round.specs.Choice.{firstOdds}
 use Rattle.round.specs.declared.Donors.{Donors}
 use Rattle.round.specs.declared.Donors.the-variants.{None, One, Two}
@@ -20,20 +20,20 @@ use Rattle.round.specs.declared.Sums.{Sums}
 -- ---- what the code is given
 
 -- the lift of an old measure, a donor and a new measure
-abbrev pub lift : ℕ → ℕ → ℕ → Lift
-lift m d b = record { old = m; donor = d; new = b }
+abbrev pub liftOfMeasures : ℕ → ℕ → ℕ → Lift
+liftOfMeasures m d b = record { old = m; donor = d; new = b }
 
 -- how many numbers a row has
 abbrev pub rowLength : ℕ
 rowLength = 4
 
 -- the lift of a row: lift number, donor, old measure, new measure
-abbrev pub liftOf : List ℕ → Lift
-liftOf row = lift (getD row 2 0) (getD row 1 0) (getD row 3 0)
+abbrev pub rowLift : List ℕ → Lift
+rowLift row = liftOfMeasures (getD row 2 0) (getD row 1 0) (getD row 3 0)
 
 -- the round whose rows these are, in lift order
-unfoldable pub lifts : List ℕ → List Lift
-lifts rows = map liftOf (pieces rowLength rows)
+unfoldable pub rowLifts : List ℕ → List Lift
+rowLifts rows = map rowLift (pieces rowLength rows)
 
 -- the sums up to which the products of a round fit 64 bits; the sheet's largest sum is not above it
 abbrev pub capacity : ℕ
@@ -62,7 +62,7 @@ Stands (Two T₁ T₂) (Both i j) n = (i < n) × (j < n)
 
 -- what a caller shows of the round and its held lifts: every fitting sheet gives it
 pub record Callable (ds : Donors) (ls : List Lift) (h : Held) : Type 0 where
-  pub fitting : Fitting ds ls
+  pub fitting : WellPosed ds ls
   pub bounded : Bounded ds ls
   pub stands : Stands ds h (length ls)
 
@@ -75,10 +75,10 @@ HasSums (One T) ls t = (t .new ≡ S ls) × (t .first ≡ U 1 ls)
 HasSums (Two T₁ T₂) ls t = (t .new ≡ S ls) × (t .first ≡ U 1 ls) × (t .second ≡ U 2 ls)
 
 -- with two donors the products of the sums fit 64 bits
-abbrev pub Multipliable : Donors → Sums → Type 0
-Multipliable None t = Unit {0}
-Multipliable (One T) t = Unit {0}
-Multipliable (Two T₁ T₂) t = SumsBounded (Two T₁ T₂) × ((t .new ≤ capacity) × (t .first ≤ capacity) × (t .second ≤ capacity))
+abbrev pub ProductsFit : Donors → Sums → Type 0
+ProductsFit None t = Unit {0}
+ProductsFit (One T) t = Unit {0}
+ProductsFit (Two T₁ T₂) t = SumsBounded (Two T₁ T₂) × ((t .new ≤ capacity) × (t .first ≤ capacity) × (t .second ≤ capacity))
 
 -- what a donor's old measures are multiplied by
 abbrev pub multiplierOf : Scale → ℕ → ℕ
@@ -92,19 +92,19 @@ scaled s l = record { old = l .old * multiplierOf s (l .donor); new = l .new * s
 -- U2 × T1 with them
 abbrev pub scaleOf : Donors → List Lift → Scale
 scaleOf ds ls =
-    record { new = D ds ls; first = oldWeight ds ls (lift 1 1 0); second = oldWeight ds ls (lift 1 2 0); odds = firstOdds ds ls }
+    record { new = D ds ls; first = oldWeight ds ls (liftOfMeasures 1 1 0); second = oldWeight ds ls (liftOfMeasures 1 2 0); odds = firstOdds ds ls }
 
 -- the multipliers with which each lift grows by its whole new measure
 abbrev pub wholly : Scale
 wholly = record { new = 1; first = 0; second = 0; odds = 0 }
 
 -- "at most 2^61": the old weights together and the new weights together
-pub record Room (s : Scale) (ls : List Lift) : Type 0 where
+pub record WeightsFit (s : Scale) (ls : List Lift) : Type 0 where
   pub olds : total (map (λ l. scaled s l .old) ls) ≤ 2 ^ 61
   pub news : total (map (λ l. scaled s l .new) ls) ≤ 2 ^ 61
 
 -- the weights of one lift
-pub record LiftRoom (s : Scale) (l : Lift) : Type 0 where
+pub record LiftWeightsFit (s : Scale) (l : Lift) : Type 0 where
   pub old : scaled s l .old ≤ 2 ^ 61
   pub new : scaled s l .new ≤ 2 ^ 61
 

@@ -13,9 +13,9 @@ use Rattle.draw.specs.declared.Drawn.{Drawn}
 use Rattle.draw.specs.declared.Drawn.the-variants.{Value, Short as Ended}
 use Rattle.round.specs.Round.{liftAt, S, D, weights, G}
 use Rattle.round.specs.Choice.{selected}
-use Rattle.round.specs.Share.{share}
-use Rattle.round.specs.Keep.{kept, tickets, keptTickets}
-use Rattle.round.specs.Rows.{lift}
+use Rattle.round.specs.Share.{roundShare}
+use Rattle.round.specs.Keep.{roundKept, tickets, keptTickets}
+use Rattle.round.specs.Rows.{liftOfMeasures}
 use Rattle.round.specs.declared.Donors.{Donors}
 use Rattle.round.specs.declared.Donors.the-variants.{None, One, Two}
 use Rattle.round.specs.declared.Held.{Held}
@@ -40,15 +40,15 @@ drawn b ws a = sameDrawn (drawAt largest ws 0 b) a
 
 -- "Lifts 11, 12, 13, old 2, 3, 5, new 4, 1, 5"
 abbrev three : List Lift
-three = lift 2 1 4 ∷ lift 3 1 1 ∷ lift 5 1 5 ∷ []
+three = liftOfMeasures 2 1 4 ∷ liftOfMeasures 3 1 1 ∷ liftOfMeasures 5 1 5 ∷ []
 
 -- "Lift 21 (m 1, T1 4) and 22 (m 3, T2 6), b 1 and 1"
 abbrev two : List Lift
-two = lift 1 1 1 ∷ lift 3 2 1 ∷ []
+two = liftOfMeasures 1 1 1 ∷ liftOfMeasures 3 2 1 ∷ []
 
 -- "Old 3, 7, new 0, 1"
 abbrev noChance : List Lift
-noChance = lift 3 1 0 ∷ lift 7 1 1 ∷ []
+noChance = liftOfMeasures 3 1 0 ∷ liftOfMeasures 7 1 1 ∷ []
 
 -- a round, and its old and new weights
 abbrev weighs : Donors → List Lift → List ℕ → List ℕ → Bool
@@ -65,11 +65,11 @@ figureCases =
 
 -- a newcomer of measure 1, alone
 abbrev alone : List Lift
-alone = lift 0 0 1 ∷ []
+alone = liftOfMeasures 0 0 1 ∷ []
 
 -- the first shrinks, both others grow: old weights 24, 6, 6, new 6, 12, 18, growths above zero 6 and 12, G 18
 abbrev bothGrow : List Lift
-bothGrow = lift 4 1 1 ∷ lift 1 1 2 ∷ lift 1 1 3 ∷ []
+bothGrow = liftOfMeasures 4 1 1 ∷ liftOfMeasures 1 1 2 ∷ liftOfMeasures 1 1 3 ∷ []
 
 -- M1 to M11 in the document's order, M11, "always dropped", for each r; then sentences of it that no M shows
 abbrev pub cases : List Bool
@@ -99,15 +99,15 @@ cases =
 
 -- the lift at place j has exactly b over S
 abbrev shares : Donors → List Lift → ℕ → Bool
-shares ds ls j = sameFraction (share ds ls j) (liftAt ls j .new // S ls)
+shares ds ls j = sameFraction (roundShare ds ls j) (liftAt ls j .new // S ls)
 
 -- old 1, 2, new 2, 1, of one donor: the first lift grows, the second shrinks
 abbrev pub exchanged : List Lift
-exchanged = lift 1 1 2 ∷ lift 2 1 1 ∷ []
+exchanged = liftOfMeasures 1 1 2 ∷ liftOfMeasures 2 1 1 ∷ []
 
 -- old 1, 1, new 2, 1, of two donors
 abbrev ofTwoDonors : List Lift
-ofTwoDonors = lift 1 1 2 ∷ lift 1 2 1 ∷ []
+ofTwoDonors = liftOfMeasures 1 1 2 ∷ liftOfMeasures 1 2 1 ∷ []
 
 -- where each donor has a lift elsewhere
 abbrev pub shareCases : List Bool
@@ -120,4 +120,4 @@ rule i j = getD (getD ((3 ∷ 0 ∷ []) ∷ (3 ∷ 3 ∷ []) ∷ []) i []) j 0
 
 -- "It keeps the tickets where both lifts are one.": 6 of 9, and so much "the ways weigh whose lift is held in their own marking"
 abbrev pub keepingCases : List Bool
-keepingCases = eqb (tickets 2 rule) 9 ∷ eqb (keptTickets 2 rule) 6 ∷ sameFraction (kept (One 3) exchanged) (6 // 9) ∷ []
+keepingCases = eqb (tickets 2 rule) 9 ∷ eqb (keptTickets 2 rule) 6 ∷ sameFraction (roundKept (One 3) exchanged) (6 // 9) ∷ []

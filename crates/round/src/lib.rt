@@ -8,7 +8,7 @@ ghost use Rattle.draw.specs.Draw.{largest};
 ghost use Rattle.draw.specs.Run.{run};
 ghost use Rattle.round.specs.Round.{growth, G};
 ghost use Rattle.round.specs.Choice.{drawPlace, preliminaryBy, keyfitz, isHeld, outcome as outcomeOf, selection, proposed, answer, selected};
-ghost use Rattle.round.specs.Rows.{lifts, Callable, HasSums, scaled, Room, Balanced, Contested};
+ghost use Rattle.round.specs.Rows.{rowLifts, Callable, HasSums, scaled, WeightsFit, Balanced, Contested};
 use draw::Drawn;
 use picking::pick_lift;
 use weights::growth_sum;
@@ -117,9 +117,9 @@ fn draw_lift(
     words: &[u64],
     at: usize,
 ) -> Selected
-    requires { ⌜ Room s (lifts (now rows)) ⌝ }
-    requires { ⌜ 1 ≤ G (map (scaled s) (lifts (now rows))) ⌝ }
-    ensures { λ r. ⌜ (let ws = map (scaled s) (lifts (now (rows .entry))) in r ≡ answer held (run largest (now (words .entry)) at (drawPlace (G ws) (map growth ws) dropped))) ⌝ }
+    requires { ⌜ WeightsFit s (rowLifts (now rows)) ⌝ }
+    requires { ⌜ 1 ≤ G (map (scaled s) (rowLifts (now rows))) ⌝ }
+    ensures { λ r. ⌜ (let ws = map (scaled s) (rowLifts (now (rows .entry))) in r ≡ answer held (run largest (now (words .entry)) at (drawPlace (G ws) (map growth ws) dropped))) ⌝ }
 {
     let bound = growth_sum(s, rows);
     match draw::draw_from(words, at, bound) {
@@ -133,10 +133,10 @@ fn draw_lift(
 
 // Keyfitz's update of the preliminary lift at place i.
 fn update(s: Scale, rows: &[u32], held: Held, i: usize, words: &[u64], at: usize) -> Selected
-    requires { ⌜ Room s (lifts (now rows)) ⌝ }
-    requires { ⌜ Balanced s (lifts (now rows)) ⌝ }
-    requires { ⌜ i < length (lifts (now rows)) ⌝ }
-    ensures { λ r. ⌜ r ≡ answer held (run largest (now (words .entry)) at (keyfitz (map (scaled s) (lifts (now (rows .entry)))) i)) ⌝ }
+    requires { ⌜ WeightsFit s (rowLifts (now rows)) ⌝ }
+    requires { ⌜ Balanced s (rowLifts (now rows)) ⌝ }
+    requires { ⌜ i < length (rowLifts (now rows)) ⌝ }
+    ensures { λ r. ⌜ r ≡ answer held (run largest (now (words .entry)) at (keyfitz (map (scaled s) (rowLifts (now (rows .entry)))) i)) ⌝ }
 {
     let l = lift_at(rows, i);
     let before = l.old * multiplier(s, l.donor);
@@ -185,9 +185,9 @@ pub fn select(
     words: &[u64],
     at: usize,
 ) -> Selected
-    requires { ⌜ Callable donors (lifts (now rows)) held ⌝ }
-    requires { ⌜ HasSums donors (lifts (now rows)) t ⌝ }
-    ensures { λ r. ⌜ r ≡ selected donors (lifts (now (rows .entry))) held (now (words .entry)) at ⌝ }
+    requires { ⌜ Callable donors (rowLifts (now rows)) held ⌝ }
+    requires { ⌜ HasSums donors (rowLifts (now rows)) t ⌝ }
+    ensures { λ r. ⌜ r ≡ selected donors (rowLifts (now (rows .entry))) held (now (words .entry)) at ⌝ }
 {
     let s = scaling(t, donors);
     match find_preliminary(s, held, words, at) {

@@ -6,7 +6,7 @@ ghost use lib.ListN.{length, take};
 ghost use lib.Seq.{slice};
 ghost use Rattle.probability.specs.Interval.{pick as pickOf};
 ghost use Rattle.round.specs.Round.{growth};
-ghost use Rattle.round.specs.Rows.{lifts, scaled, Room, blockLength, blockEnd};
+ghost use Rattle.round.specs.Rows.{rowLifts, scaled, WeightsFit, blockLength, blockEnd};
 use crate::Lift;
 use crate::Scale;
 use crate::weights::count;
@@ -19,7 +19,7 @@ const BLOCK: usize = 16;
 
 // The place, among the lifts lent, of the one in whose interval the position q falls.
 fn pick(lifts: &[Lift], s: Scale, q: u64) -> usize
-    requires { ⌜ Room s (now lifts) ⌝ }
+    requires { ⌜ WeightsFit s (now lifts) ⌝ }
     ensures { λ r. ⌜ r ≡ pickOf (map growth (map (scaled s) (now (lifts .entry)))) q ⌝ }
 {
     let mut left = q;
@@ -37,7 +37,7 @@ fn pick(lifts: &[Lift], s: Scale, q: u64) -> usize
 
 // The same among the first n lifts of a block, which it lends.
 fn pick_first(block: [Lift; BLOCK], n: usize, s: Scale, q: u64) -> usize
-    requires { ⌜ (n ≤ blockLength) × Room s (take n block) ⌝ }
+    requires { ⌜ (n ≤ blockLength) × WeightsFit s (take n block) ⌝ }
     ensures { λ r. ⌜ r ≡ pickOf (map growth (map (scaled s) (take n block))) q ⌝ }
 {
     pick(&block[..n], s, q)
@@ -56,9 +56,9 @@ fn block_end(a: usize, n: usize) -> usize
 
 // The lifts from place a up to place e, at the start of a block.
 fn gathered(rows: &[u32], a: usize, e: usize) -> [Lift; BLOCK]
-    requires { ⌜ (a ≤ e) × (e ≤ length (lifts (now rows))) ⌝ }
+    requires { ⌜ (a ≤ e) × (e ≤ length (rowLifts (now rows))) ⌝ }
     requires { ⌜ e - a ≤ blockLength ⌝ }
-    ensures { λ r. ⌜ take (e - a) r ≡ slice a e (lifts (now (rows .entry))) ⌝ }
+    ensures { λ r. ⌜ take (e - a) r ≡ slice a e (rowLifts (now (rows .entry))) ⌝ }
 {
     let none = Lift {
         old: 0,
@@ -76,8 +76,8 @@ fn gathered(rows: &[u32], a: usize, e: usize) -> [Lift; BLOCK]
 
 // The place of the lift in whose interval the position q falls: its block is found by the sums of blocks, and then lent.
 pub fn pick_lift(s: Scale, rows: &[u32], q: u64) -> usize
-    requires { ⌜ Room s (lifts (now rows)) ⌝ }
-    ensures { λ r. ⌜ r ≡ pickOf (map growth (map (scaled s) (lifts (now (rows .entry))))) q ⌝ }
+    requires { ⌜ WeightsFit s (rowLifts (now rows)) ⌝ }
+    ensures { λ r. ⌜ r ≡ pickOf (map growth (map (scaled s) (rowLifts (now (rows .entry))))) q ⌝ }
 {
     let n = count(rows);
     let mut left = q;

@@ -4,8 +4,8 @@ ghost use mathlib.Core.List.{List, map};
 ghost use Prim.Native.Nat.{_^_, _≤_, _<_};
 ghost use lib.ListN.{length};
 ghost use lib.Seq.{slice};
-ghost use Rattle.round.specs.Round.{liftAt, U, sent as sentOf, growth, G, Fitting};
-ghost use Rattle.round.specs.Rows.{lifts, Bounded, HasSums, Multipliable, multiplierOf, scaled, scaleOf, Room, LiftRoom};
+ghost use Rattle.round.specs.Round.{liftAt, U, measureFrom as sentOf, growth, G, WellPosed};
+ghost use Rattle.round.specs.Rows.{rowLifts, Bounded, HasSums, ProductsFit, multiplierOf, scaled, scaleOf, WeightsFit, LiftWeightsFit};
 use crate::Donors;
 use crate::Lift;
 use crate::Scale;
@@ -27,7 +27,7 @@ pub fn multiplier(s: Scale, donor: u32) -> u64
 
 // A lift's growth where above zero, else 0.
 pub fn growth_of(s: Scale, l: Lift) -> u64
-    requires { ⌜ LiftRoom s l ⌝ }
+    requires { ⌜ LiftWeightsFit s l ⌝ }
     ensures { λ r. ⌜ r ≡ growth (scaled s l) ⌝ }
 {
     let before = l.old * multiplier(s, l.donor);
@@ -40,15 +40,15 @@ pub fn growth_of(s: Scale, l: Lift) -> u64
 
 // How many lifts the rows have.
 pub fn count(rows: &[u32]) -> usize
-    ensures { λ r. ⌜ r ≡ length (lifts (now (rows .entry))) ⌝ }
+    ensures { λ r. ⌜ r ≡ length (rowLifts (now (rows .entry))) ⌝ }
 {
     rows.len() / Lift::ROW
 }
 
 // The lift at a place of the round.
 pub fn lift_at(rows: &[u32], i: usize) -> Lift
-    requires { ⌜ i < length (lifts (now rows)) ⌝ }
-    ensures { λ r. ⌜ r ≡ liftAt (lifts (now (rows .entry))) i ⌝ }
+    requires { ⌜ i < length (rowLifts (now rows)) ⌝ }
+    ensures { λ r. ⌜ r ≡ liftAt (rowLifts (now (rows .entry))) i ⌝ }
 {
     let at = Lift::ROW * i;
     Lift {
@@ -60,9 +60,9 @@ pub fn lift_at(rows: &[u32], i: usize) -> Lift
 
 // The sum of the intervals of the lifts from place a up to place e.
 pub fn growth_sum_between(s: Scale, rows: &[u32], a: usize, e: usize) -> u64
-    requires { ⌜ Room s (lifts (now rows)) ⌝ }
-    requires { ⌜ e ≤ length (lifts (now rows)) ⌝ }
-    ensures { λ r. ⌜ r ≡ G (map (scaled s) (slice a e (lifts (now (rows .entry))))) ⌝ }
+    requires { ⌜ WeightsFit s (rowLifts (now rows)) ⌝ }
+    requires { ⌜ e ≤ length (rowLifts (now rows)) ⌝ }
+    ensures { λ r. ⌜ r ≡ G (map (scaled s) (slice a e (rowLifts (now (rows .entry))))) ⌝ }
 {
     let mut sum: u64 = 0;
     let mut i = a;
@@ -75,8 +75,8 @@ pub fn growth_sum_between(s: Scale, rows: &[u32], a: usize, e: usize) -> u64
 
 // The sum of all intervals.
 pub fn growth_sum(s: Scale, rows: &[u32]) -> u64
-    requires { ⌜ Room s (lifts (now rows)) ⌝ }
-    ensures { λ r. ⌜ r ≡ G (map (scaled s) (lifts (now (rows .entry)))) ⌝ }
+    requires { ⌜ WeightsFit s (rowLifts (now rows)) ⌝ }
+    ensures { λ r. ⌜ r ≡ G (map (scaled s) (rowLifts (now (rows .entry)))) ⌝ }
 {
     growth_sum_between(s, rows, 0, count(rows))
 }
@@ -93,8 +93,8 @@ fn measure_from(l: Lift, k: u32) -> u64
 
 // U: the part of donor k's old sum that came here.
 fn donated(rows: &[u32], k: u32) -> u64
-    requires { ⌜ U k (lifts (now rows)) ≤ 2 ^ 61 ⌝ }
-    ensures { λ r. ⌜ r ≡ U k (lifts (now (rows .entry))) ⌝ }
+    requires { ⌜ U k (rowLifts (now rows)) ≤ 2 ^ 61 ⌝ }
+    ensures { λ r. ⌜ r ≡ U k (rowLifts (now (rows .entry))) ⌝ }
 {
     let n = count(rows);
     let mut sum: u64 = 0;
@@ -108,8 +108,8 @@ fn donated(rows: &[u32], k: u32) -> u64
 
 // The sums that the choice of a round goes by.
 pub fn sums_of(rows: &[u32], donors: Donors) -> Sums
-    requires { ⌜ Fitting donors (lifts (now rows)) × Bounded donors (lifts (now rows)) ⌝ }
-    ensures { λ r. ⌜ HasSums donors (lifts (now (rows .entry))) r ⌝ }
+    requires { ⌜ WellPosed donors (rowLifts (now rows)) × Bounded donors (rowLifts (now rows)) ⌝ }
+    ensures { λ r. ⌜ HasSums donors (rowLifts (now (rows .entry))) r ⌝ }
 {
     let new = growth_sum(WHOLLY, rows);
     match donors {
@@ -133,7 +133,7 @@ pub fn sums_of(rows: &[u32], donors: Donors) -> Sums
 
 // The multipliers that give the weights of a round with these sums.
 pub fn scaling(t: Sums, donors: Donors) -> Scale
-    requires { ⌜ Multipliable donors t ⌝ }
+    requires { ⌜ ProductsFit donors t ⌝ }
     ensures { λ r. ⌜ ((ls : List Lift) → HasSums donors ls t → r ≡ scaleOf donors ls) ⌝ }
 {
     match donors {

@@ -10,13 +10,13 @@ use lib.Dec.{eqb}
 use lib.ListN.{getD, set}
 use Rattle.probability.specs.Sum.{indicator}
 use Rattle.sheet.specs.Sheet.{mostRounds, Lift}
-use Rattle.tally.specs.Rounds.{those, rounds, sends, donors}
+use Rattle.tally.specs.Rounds.{filterRange, rounds, sends, donors}
 use Rattle.tally.specs.Tables.{bits}
 use Rattle.rows.specs.SetBits.{setFrom, setBits, noBit, twoAt, firstTwo}
-use Rattle.sheet.specs.Law.{Listed}
+use Rattle.sheet.specs.Law.{AllWellFormed}
 use Rattle.tally.proofs.Tables.{getD-tabulate}
 use Rattle.tally.proofs.Bits.{low, high}
-use Rattle.tally.proofs.Those.{those-cut, those-none, those-in, those-head}
+use Rattle.tally.proofs.Ranges.{filter-cut, filter-none, filter-in, filter-head}
 use Rattle.tally.proofs.Sending.{sends-none, from-nowhere, from-beyond}
 use Rattle.tally.proofs.Filling.{Filled, filled-turn}
 
@@ -143,25 +143,25 @@ two-turn words {n} {r = r} t h ea eb q =
 -- ---- numbers made of bits
 
 -- the bits that are set are those that pass the test
-pub set-bits : (p : ℕ → Bool) (a n : ℕ) {q : ℕ → Bool} → ((t : ℕ) → q t ≡ p (a + t)) → setFrom a n (bits n q) ≡ those p a n
-unfolding setFrom bits those
+pub set-bits : (p : ℕ → Bool) (a n : ℕ) {q : ℕ → Bool} → ((t : ℕ) → q t ≡ p (a + t)) → setFrom a n (bits n q) ≡ filterRange p a n
+unfolding setFrom bits filterRange
 set-bits p a zero h = refl
 set-bits p a (suc n) {q} h =
     set-step n (bits (suc n) q) (q 0) (bits n (λ t. q (suc t))) refl a
     ∙ rw (h 0, add-zero a, set-bits p (suc a) n {q = λ t. q (suc t)} (λ t. h (suc t) ∙ ap p (omega arith)))
 
 -- those of two words are the rounds, if neither 0 nor a number beyond the last round passes
-two-words : (p : ℕ → Bool) → p 0 ≡ false → ((t : ℕ) → mostRounds < t → p t ≡ false) → those p 0 64 ++ those p 64 64 ≡ rounds p
+two-words : (p : ℕ → Bool) → p 0 ≡ false → ((t : ℕ) → mostRounds < t → p t ≡ false) → filterRange p 0 64 ++ filterRange p 64 64 ≡ rounds p
 two-words p none beyond =
     let n : ℕ = 127 - mostRounds in
-    let first : those p 0 1 ≡ [] = those-none p 0 1 (λ t _ h. let e : t ≡ 0 = omega arith in rw e none) in
-    let last : those p (mostRounds + 1) n ≡ [] = those-none p (mostRounds + 1) n (λ t h _. beyond t (omega arith)) in
-    sym (those-cut p 0 64 64 {b = 64} {k = 128} refl refl) ∙ those-cut p 0 1 127 {b = 1} {k = 128} refl refl ∙ ap (λ l. l ++ those p 1 127) first
-    ∙ those-cut p 1 mostRounds n {b = mostRounds + 1} {k = 127} refl refl ∙ ap (λ l. rounds p ++ l) last ∙ append-nil (rounds p)
+    let first : filterRange p 0 1 ≡ [] = filter-none p 0 1 (λ t _ h. let e : t ≡ 0 = omega arith in rw e none) in
+    let last : filterRange p (mostRounds + 1) n ≡ [] = filter-none p (mostRounds + 1) n (λ t h _. beyond t (omega arith)) in
+    sym (filter-cut p 0 64 64 {b = 64} {k = 128} refl refl) ∙ filter-cut p 0 1 127 {b = 1} {k = 128} refl refl ∙ ap (λ l. l ++ filterRange p 1 127) first
+    ∙ filter-cut p 1 mostRounds n {b = mostRounds + 1} {k = 127} refl refl ∙ ap (λ l. rounds p ++ l) last ∙ append-nil (rounds p)
 
 module _ (r : ℕ) (ls : List Lift) where
   -- the bits that are set in the two words of a round are its donors
-  pub set-donors : Listed 0 ls → setBits (bits 64 (λ t. sends (0 + t) r ls)) (bits 64 (λ t. sends (64 + t) r ls)) ≡ donors r ls
+  pub set-donors : AllWellFormed 0 ls → setBits (bits 64 (λ t. sends (0 + t) r ls)) (bits 64 (λ t. sends (64 + t) r ls)) ≡ donors r ls
   set-donors d =
       ap₂ _++_ (set-bits (λ t. sends t r ls) 0 64 (λ t. refl)) (set-bits (λ t. sends t r ls) 64 64 (λ t. refl))
       ∙ two-words (λ t. sends t r ls) (sends-none 0 r (from-nowhere r) 0 ls d) (λ t h. sends-none t r (from-beyond t r h) 0 ls d)
@@ -170,8 +170,8 @@ module _ (r : ℕ) (ls : List Lift) where
   pub rising-two : {d e : ℕ} {ds : List ℕ} → donors r ls ≡ d ∷ e ∷ ds → d < e
   rising-two {d} {e} {ds} q =
       let p : ℕ → Bool = λ t. sends t r ls in
-      those-head p (suc d) (1 + mostRounds - suc d) e ds (sym (those-head p 1 mostRounds d (e ∷ ds) q .rest)) .from
+      filter-head p (suc d) (1 + mostRounds - suc d) e ds (sym (filter-head p 1 mostRounds d (e ∷ ds) q .rest)) .from
 
   -- each donor is a round
   pub donor-round : {d : ℕ} → List·Memᴰ d (donors r ls) → d ≤ mostRounds
-  donor-round {d} m = omega (arith, those-in (λ t. sends t r ls) 1 mostRounds d m .2)
+  donor-round {d} m = omega (arith, filter-in (λ t. sends t r ls) 1 mostRounds d m .2)

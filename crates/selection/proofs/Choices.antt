@@ -8,21 +8,21 @@ use lib.ListN.{length, getD}
 use Rattle.probability.proofs.Lists.{All, all-none, all-more}
 use Rattle.round.proofs.Laws.{outcome-between}
 use Rattle.sheet.specs.Sheet.{mostRounds, Lift}
-use Rattle.tally.specs.Rounds.{named, inUse, ofRound}
-use Rattle.sheet.specs.Law.{Listed}
+use Rattle.tally.specs.Rounds.{liftCount, inUse, ofRound}
+use Rattle.sheet.specs.Law.{AllWellFormed}
 use Rattle.tally.specs.Law.{Fit}
 use Rattle.sheet.specs.Lift.{New}
-use Rattle.tally.proofs.Those.{Rising, those-few, those-rise}
-use Rattle.selection.specs.Choice.{heldIn, liftAt, nobody, Choice}
+use Rattle.tally.proofs.Ranges.{Rising, filter-few, filter-rise}
+use Rattle.selection.specs.Choice.{heldOfRound, liftInRound, noLift, Choice}
 use Rattle.selection.proofs.Steps.{Steps, none, some}
 
 -- lift numbers have room in a word's payload
-number-small : (n r : ℕ) (ls : List Lift) → Listed n ls → (i : ℕ) → getD (ofRound r ls) i nobody .number < 2 ^ 28
-unfolding ofRound Listed
+number-small : (n r : ℕ) (ls : List Lift) → AllWellFormed n ls → (i : ℕ) → getD (ofRound r ls) i noLift .number < 2 ^ 28
+unfolding ofRound AllWellFormed
 number-small n r [] d i = omega arith
 number-small n r (l ∷ ls) d i = go (eqb (l .new .round) r) i (number-small (l .number) r ls (d .1))
   where
-    go : (t : Bool) (i : ℕ) → ((k : ℕ) → getD (ofRound r ls) k nobody .number < 2 ^ 28) → getD (cond t (l ∷ ofRound r ls) (ofRound r ls)) i nobody .number < 2 ^ 28
+    go : (t : Bool) (i : ℕ) → ((k : ℕ) → getD (ofRound r ls) k noLift .number < 2 ^ 28) → getD (cond t (l ∷ ofRound r ls) (ofRound r ls)) i noLift .number < 2 ^ 28
     go true zero ih = d .0 .payload
     go true (suc i) ih = ih i
     go false i ih = ih i
@@ -44,12 +44,12 @@ rises-sound a [] d = all-none Sound
 rises-sound a (c ∷ cs) d = all-more Sound (d .1) (rises-sound (suc (c .round)) cs (d .2))
 
 -- those of rising rounds
-steps-rise : {ls : List Lift} {ws : List ℕ} {from next : ℕ} {rs : List ℕ} {cs : List Choice} → Listed 0 ls → Steps ls ws from rs cs next
+steps-rise : {ls : List Lift} {ws : List ℕ} {from next : ℕ} {rs : List ℕ} {cs : List Choice} → AllWellFormed 0 ls → Steps ls ws from rs cs next
     → (a : ℕ) → Rising (λ r. r ≤ mostRounds) a rs → Rises a cs
-unfolding liftAt
+unfolding liftInRound
 steps-rise d none a k = tt
 steps-rise {ls} d (some {r = r} {s = s} q rest) a k =
-    let o = outcome-between (heldIn r ls) s in (
+    let o = outcome-between (heldOfRound r ls) s in (
       k .0,
       record {
         upto = k .1;
@@ -62,8 +62,8 @@ steps-rise {ls} d (some {r = r} {s = s} q rest) a k =
 
 -- those of all new rounds
 pub panel-rises : {ls : List Lift} {ws : List ℕ} {start next : ℕ} {cs : List Choice} → Fit ls → Steps ls ws start (inUse New ls) cs next → Rises 1 cs
-panel-rises {ls} f k = steps-rise (f .listable .listed) k 1 (those-rise (λ r. r ≤ mostRounds) (λ r. ltb 0 (named New r ls)) 1 mostRounds (λ r l m e. omega arith))
+panel-rises {ls} f k = steps-rise (f .wellFormed .listed) k 1 (filter-rise (λ r. r ≤ mostRounds) (λ r. ltb 0 (liftCount New r ls)) 1 mostRounds (λ r l m e. omega arith))
 
 -- which are few
 pub few-rounds : (ls : List Lift) → length (inUse New ls) ≤ mostRounds
-few-rounds ls = those-few (λ r. ltb 0 (named New r ls)) 1 mostRounds
+few-rounds ls = filter-few (λ r. ltb 0 (liftCount New r ls)) 1 mostRounds

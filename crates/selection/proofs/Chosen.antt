@@ -12,10 +12,10 @@ use Rattle.probability.proofs.Lists.{all-getD}
 use Rattle.draw.specs.Draw.{largest}
 use Rattle.draw.specs.Run.{finished, run}
 use Rattle.draw.proofs.Runs.{run-every}
-use Rattle.round.specs.Round.{liftAt as roundLiftAt, S, Donate, Weight, oldWeight, weights, weightAt}
+use Rattle.round.specs.Round.{liftAt as roundLiftAt, S, AreDonors, Weight, oldWeight, weights, weightAt}
 use Rattle.round.specs.Choice.{Selection}
 use Rattle.round.specs.Law.{Weighty}
-use Rattle.round.specs.Rows.{lift}
+use Rattle.round.specs.Rows.{liftOfMeasures}
 use Rattle.probability.specs.Initial.{Initial, here, elsewhere}
 use Rattle.round.specs.Share.{heldOf}
 use Rattle.round.specs.declared.Donors.{Donors}
@@ -24,8 +24,8 @@ use Rattle.round.proofs.Laws.{lawful}
 use Rattle.sheet.specs.Sheet.{mostRounds, Lift}
 use Rattle.tally.specs.Law.{Fit}
 use Rattle.sheet.specs.Lift.{Old, New, placeAt}
-use Rattle.tally.specs.Rounds.{named, sumOf, donors, ofRound, donorNumber, further, heldAt}
-use Rattle.selection.specs.Choice.{withSums, donorsOf, inRound, liftsOf, heldAmong, heldIn, planOf, nobody, liftAt}
+use Rattle.tally.specs.Rounds.{liftCount, sumOf, donors, ofRound, donorNumber, further, heldAt}
+use Rattle.selection.specs.Choice.{withSums, donorsOf, inRound, liftsOf, heldAmong, heldOfRound, planOf, noLift, liftInRound}
 use Rattle.selection.proofs.Held.{proper}
 use Rattle.selection.proofs.Flags.{ofRound-all}
 use Rattle.selection.proofs.RoundsFit.{Senders, none, one, two, senders, number-first, number-second, round-fits}
@@ -37,13 +37,13 @@ record Stood (t : ℕ) (u : Lift) : Type 0 where
   held : u .held ≡ true
   from : u .old .round ≡ t
 
-stood : (t : ℕ) (us : List Lift) (i : ℕ) → heldAt t us ≡ here i → Stood t (getD us i nobody)
+stood : (t : ℕ) (us : List Lift) (i : ℕ) → heldAt t us ≡ here i → Stood t (getD us i noLift)
 unfolding heldAt
 stood t [] i e = let z : _≡_ {A = ℕ} 0 1 = cc in absurd (omega arith)
 stood t (u ∷ us) i e = go (u .held && eqb (u .old .round) t) refl (heldAt t us) e (stood t us)
   where
     go : (x : Bool) → (u .held && eqb (u .old .round) t) ≡ x → (y : Initial) → cond x (here 0) (further y) ≡ here i
-        → ((j : ℕ) → y ≡ here j → Stood t (getD us j nobody)) → Stood t (getD (u ∷ us) i nobody)
+        → ((j : ℕ) → y ≡ here j → Stood t (getD us j noLift)) → Stood t (getD (u ∷ us) i noLift)
     go true q y f rest =
         let z : i ≡ 0 = cc in
         let h = and-eq-true-iff (u .held) (eqb (u .old .round) t) .0 q in
@@ -52,8 +52,8 @@ stood t (u ∷ us) i e = go (u .held && eqb (u .old .round) t) refl (heldAt t us
     go false q elsewhere f rest = let z : _≡_ {A = ℕ} 0 1 = cc in absurd (omega arith)
 
 -- a held lift's weights in its round
-weights-at : (g : Lift → RoundLift) (w : RoundLift → Weight) (us : List Lift) (i : ℕ) → getD us i nobody .held ≡ true
-    → weightAt (map w (map g us)) i ≡ w (g (getD us i nobody))
+weights-at : (g : Lift → RoundLift) (w : RoundLift → Weight) (us : List Lift) (i : ℕ) → getD us i noLift .held ≡ true
+    → weightAt (map w (map g us)) i ≡ w (g (getD us i noLift))
 weights-at g w [] i h = absurd (false≢true h)
 weights-at g w (u ∷ us) zero h = refl
 weights-at g w (u ∷ us) (suc i) h = weights-at g w us i h
@@ -67,25 +67,25 @@ module _ {ls : List Lift} (f : Fit ls) (r : ℕ) where
   rows ds = map (inRound (donorNumber ds)) us
 
   -- a held lift has an old measure above 0
-  some-measure : (i : ℕ) → getD us i nobody .held ≡ true → 0 < getD us i nobody .old .measure
+  some-measure : (i : ℕ) → getD us i noLift .held ≡ true → 0 < getD us i noLift .old .measure
   some-measure i =
       all-getD (λ l. l .held ≡ true → 0 < l .old .measure) (λ e. absurd (false≢true e)) us
-      (ofRound-all (λ l. l .held ≡ true → 0 < l .old .measure) r ls (λ l m _. proper 0 ls (f .listable .listed) l m .held)) i
+      (ofRound-all (λ l. l .held ≡ true → 0 < l .old .measure) r ls (λ l m _. proper 0 ls (f .wellFormed .listed) l m .held)) i
 
   -- and so an old weight, if donors and sums give it one
   weight-some : (ds : List ℕ) (D : Donors) (t i : ℕ) → heldAt t us ≡ here i
-      → ((m b : ℕ) → 0 < m → 0 < oldWeight D (rows ds) (lift m (donorNumber ds t) b)) → 0 < weightAt (weights D (rows ds)) i .old
+      → ((m b : ℕ) → 0 < m → 0 < oldWeight D (rows ds) (liftOfMeasures m (donorNumber ds t) b)) → 0 < weightAt (weights D (rows ds)) i .old
   unfolding weights
   weight-some ds D t i e h =
       let s = stood t us i e in
       rw (weights-at _ _ us i (s .held), s .from) (h _ _ (some-measure i (s .held)))
 
-  weigh : (ds : List ℕ) → Senders r ls ds → 0 < S (rows ds) → Donate (withSums (λ t. sumOf Old t ls) ds) (rows ds) → Weighty (withSums (λ t. sumOf Old t ls) ds) (rows ds) (heldAmong (λ t. heldAt t us) ds)
+  weigh : (ds : List ℕ) → Senders r ls ds → 0 < S (rows ds) → AreDonors (withSums (λ t. sumOf Old t ls) ds) (rows ds) → Weighty (withSums (λ t. sumOf Old t ls) ds) (rows ds) (heldAmong (λ t. heldAt t us) ds)
   unfolding oldWeight
   weigh [] none p d = tt
   weigh (t ∷ []) (one s l h) p d = go (heldAt t us) refl
     where
-      first : (m b : ℕ) → 0 < m → 0 < oldWeight (withSums (λ t. sumOf Old t ls) (t ∷ [])) (rows (t ∷ [])) (lift m (donorNumber (t ∷ []) t) b)
+      first : (m b : ℕ) → 0 < m → 0 < oldWeight (withSums (λ t. sumOf Old t ls) (t ∷ [])) (rows (t ∷ [])) (liftOfMeasures m (donorNumber (t ∷ []) t) b)
       first m b q = rw (eq-eqb t t refl) (mul-pos q p)
 
       go : (x : Initial) → heldAt t us ≡ x → Weighty (withSums (λ t. sumOf Old t ls) (t ∷ [])) (rows (t ∷ [])) (heldOf x elsewhere)
@@ -96,13 +96,13 @@ module _ {ls : List Lift} (f : Fit ls) (r : ℕ) where
       ds : List ℕ
       ds = t ∷ v ∷ []
 
-      first : (m b : ℕ) → 0 < m → 0 < oldWeight (withSums (λ t. sumOf Old t ls) ds) (rows ds) (lift m (donorNumber ds t) b)
+      first : (m b : ℕ) → 0 < m → 0 < oldWeight (withSums (λ t. sumOf Old t ls) ds) (rows ds) (liftOfMeasures m (donorNumber ds t) b)
       first m b q =
           let u : 0 < sumOf Old v ls = omega (arith, d .1 .some, d .1 .part) in
           let x : 0 < m * sumOf Old v ls = mul-pos q u in
           rw (number-first t (v ∷ []) t, eq-eqb t t refl) (mul-pos (omega arith) p)
 
-      second : (n b : ℕ) → 0 < n → 0 < oldWeight (withSums (λ t. sumOf Old t ls) ds) (rows ds) (lift n (donorNumber ds v) b)
+      second : (n b : ℕ) → 0 < n → 0 < oldWeight (withSums (λ t. sumOf Old t ls) ds) (rows ds) (liftOfMeasures n (donorNumber ds v) b)
       second n b q =
           let u : 0 < sumOf Old t ls = omega (arith, d .0 .some, d .0 .part) in
           let x : 0 < n * sumOf Old t ls = mul-pos q u in
@@ -123,26 +123,26 @@ pub record Measured (ls : List Lift) (r : ℕ) (a : Lift) : Type 0 where
   pub some : 0 < placeAt New a .measure
 
 new-some : (g : Lift → RoundLift) → ((l : Lift) → g l .new ≡ placeAt New l .measure) → (vs : List Lift) (i : ℕ) → 0 < roundLiftAt (map g vs) i .new
-    → 0 < placeAt New (getD vs i nobody) .measure
+    → 0 < placeAt New (getD vs i noLift) .measure
 new-some g e [] i h = absurd (omega arith)
 new-some g e (v ∷ vs) zero h = rw (e v) at h
 new-some g e (v ∷ vs) (suc i) h = new-some g e vs i h
 
 -- it is one of them: beyond the last there is no measure
-stands-in : (vs : List Lift) (i : ℕ) → 0 < placeAt New (getD vs i nobody) .measure → List·Memᴰ (getD vs i nobody) vs
+stands-in : (vs : List Lift) (i : ℕ) → 0 < placeAt New (getD vs i noLift) .measure → List·Memᴰ (getD vs i noLift) vs
 stands-in [] i h = absurd (omega arith)
 stands-in (v ∷ vs) zero h = List·Memᴰ·head refl
 stands-in (v ∷ vs) (suc i) h = List·Memᴰ·tail (stands-in vs i h)
 
-module _ {ls : List Lift} (f : Fit ls) {r : ℕ} (low : 1 ≤ r) (high : r ≤ mostRounds) (used : 0 < named New r ls) where
+module _ {ls : List Lift} (f : Fit ls) {r : ℕ} (low : 1 ≤ r) (high : r ≤ mostRounds) (used : 0 < liftCount New r ls) where
   -- on every path, and so in every run that ends
   pub run-measured : (ws : List ℕ) (from : ℕ) {vs : List ℕ} {s : Selection} {next : ℕ} → run largest ws from (planOf r ls) ≡ finished vs s next
-      → Measured ls r (liftAt r ls (s .place))
-  unfolding planOf donorsOf liftsOf heldIn liftAt
+      → Measured ls r (liftInRound r ls (s .place))
+  unfolding planOf donorsOf liftsOf heldOfRound liftInRound
   run-measured ws from {vs} {s} {next} e =
       let fits = round-fits f low high used in
       let weighty = weigh f r (donors r ls) (senders f low high) (fits .positive) (fits .donate) in
-      let p : 0 < placeAt New (liftAt r ls (s .place)) .measure =
-      new-some _ (λ l. refl) (ofRound r ls) (s .place) (run-every _ largest (planOf r ls) (lawful (donorsOf r ls) (liftsOf r ls) .chosen (fits .positive) (heldIn r ls) weighty) ws from e) in
+      let p : 0 < placeAt New (liftInRound r ls (s .place)) .measure =
+      new-some _ (λ l. refl) (ofRound r ls) (s .place) (run-every _ largest (planOf r ls) (lawful (donorsOf r ls) (liftsOf r ls) .chosen (fits .positive) (heldOfRound r ls) weighty) ws from e) in
       let a = ofRound-all (λ l. List·Memᴰ l ls × (l .new .round ≡ r)) r ls (λ l m q. (m, q)) _ (stands-in (ofRound r ls) (s .place) p) in
       record { inside = a .0; round = a .1; some = p }

@@ -11,8 +11,8 @@ use Rattle.probability.specs.Plan.{paths, weight}
 use Rattle.probability.proofs.Fractions.{≈-sym, ≈-trans}
 use Rattle.round.specs.Round.{liftAt as roundLiftAt, U, D, weights}
 use Rattle.round.specs.Choice.{plan, isHeld}
-use Rattle.round.specs.Share.{chooses, share as roundShare}
-use Rattle.round.specs.Keep.{kept as roundKept, Best}
+use Rattle.round.specs.Share.{chooses, roundShare}
+use Rattle.round.specs.Keep.{roundKept, Best}
 use Rattle.round.specs.declared.Held.{Held}
 use Rattle.round.specs.declared.Donors.the-variants.{One}
 use Rattle.round.proofs.Shares.{shares as round-shares}
@@ -20,9 +20,9 @@ use Rattle.round.proofs.Keeping.{best-≈, keeps as round-keeps}
 use Rattle.sheet.specs.Sheet.{mostRounds, Lift, sheetOf}
 use Rattle.tally.specs.Law.{Fit}
 use Rattle.sheet.specs.Lift.{Old, New, placeAt}
-use Rattle.tally.proofs.Those.{those-in}
-use Rattle.tally.specs.Rounds.{named, inUse, sumOf, donors, ofRound, donorNumber}
-use Rattle.selection.specs.Choice.{donorsOf, inRound, liftsOf, heldIn, planOf, nobody, liftAt}
+use Rattle.tally.proofs.Ranges.{filter-in}
+use Rattle.tally.specs.Rounds.{liftCount, inUse, sumOf, donors, ofRound, donorNumber}
+use Rattle.selection.specs.Choice.{donorsOf, inRound, liftsOf, heldOfRound, planOf, noLift, liftInRound}
 use Rattle.selection.specs.Initial.{marked}
 use Rattle.selection.specs.Fair.{share, kept, FairTheorem}
 use Rattle.selection.proofs.Marks.{inUse-marked, donorsOf-marked, liftsOf-marked}
@@ -33,7 +33,7 @@ use Rattle.selection.proofs.Selections.{transfer, whole}
 use Rattle.selection.proofs.MarkedFits.{back, marked-fits, flags}
 
 -- the plan of a round of the lifts so marked
-plan-marked : (m : List Lift) (r : ℕ) (ls : List Lift) → planOf r (marked m ls) ≡ plan (donorsOf r ls) (liftsOf r ls) (heldIn r (marked m ls))
+plan-marked : (m : List Lift) (r : ℕ) (ls : List Lift) → planOf r (marked m ls) ≡ plan (donorsOf r ls) (liftsOf r ls) (heldOfRound r (marked m ls))
 unfolding planOf
 plan-marked m r ls = rw (donorsOf-marked m r ls, liftsOf-marked m r ls)
 
@@ -42,22 +42,22 @@ unfolding liftsOf
 length-lifts r ls = length-map (ofRound r ls) (inRound (donorNumber (donors r ls)))
 
 -- the lift at a place has the same new measure for the round
-new-at : (r : ℕ) (ls : List Lift) (j : ℕ) → roundLiftAt (liftsOf r ls) j .new ≡ placeAt New (liftAt r ls j) .measure
-unfolding liftsOf liftAt
+new-at : (r : ℕ) (ls : List Lift) (j : ℕ) → roundLiftAt (liftsOf r ls) j .new ≡ placeAt New (liftInRound r ls j) .measure
+unfolding liftsOf liftInRound
 new-at r ls j = go (ofRound r ls) j
   where
     go : (us : List Lift) (j : ℕ)
-        → roundLiftAt (map (inRound (donorNumber (donors r ls))) us) j .new ≡ placeAt New (getD us j nobody) .measure
+        → roundLiftAt (map (inRound (donorNumber (donors r ls))) us) j .new ≡ placeAt New (getD us j noLift) .measure
     go [] j = refl
     go (u ∷ us) zero = refl
     go (u ∷ us) (suc j) = go us j
 
-module _ {ls : List Lift} (f : Fit ls) {r : ℕ} (low : 1 ≤ r) (high : r ≤ mostRounds) (some : 0 < named New r ls) where
-  fair-shares : (j : ℕ) → j < length (ofRound r ls) → share ls r j ≈ placeAt New (liftAt r ls j) .measure // sumOf New r ls
+module _ {ls : List Lift} (f : Fit ls) {r : ℕ} (low : 1 ≤ r) (high : r ≤ mostRounds) (some : 0 < liftCount New r ls) where
+  fair-shares : (j : ℕ) → j < length (ofRound r ls) → share ls r j ≈ placeAt New (liftInRound r ls j) .measure // sumOf New r ls
   unfolding share roundShare
   fair-shares j l =
       let F : Held → Fraction = λ h. weight (chooses j) (paths (plan (donorsOf r ls) (liftsOf r ls) h)) in
-      let e = selections-ext ls (λ ms. weight (chooses j) (paths (planOf r ms))) (λ ms. F (heldIn r ms)) (λ m d. ap (λ p. weight (chooses j) (paths p)) (plan-marked m r ls)) in
+      let e = selections-ext ls (λ ms. weight (chooses j) (paths (planOf r ms))) (λ ms. F (heldOfRound r ms)) (λ m d. ap (λ p. weight (chooses j) (paths p)) (plan-marked m r ls)) in
       rw e
       (≈-trans (transfer ls f r low high F (λ h. weight-den (chooses j) (plan (donorsOf r ls) (liftsOf r ls) h)))
       (rw (← S-round f low high, ← new-at r ls j) (round-shares (donorsOf r ls) (liftsOf r ls) (round-fits f low high some) .shares j (rw (length-lifts r ls) l))))
@@ -66,10 +66,10 @@ module _ {ls : List Lift} (f : Fit ls) {r : ℕ} (low : 1 ≤ r) (high : r ≤ m
   unfolding kept roundKept
   kept-moved =
       let F : Held → Fraction = λ h. weight (λ s. isHeld h (s .place)) (paths (plan (donorsOf r ls) (liftsOf r ls) h)) in
-      let e = selections-ext ls (λ ms. weight (λ s. liftAt r ms (s .place) .held) (paths (planOf r ms))) (λ ms. F (heldIn r ms))
+      let e = selections-ext ls (λ ms. weight (λ s. liftInRound r ms (s .place) .held) (paths (planOf r ms))) (λ ms. F (heldOfRound r ms))
       (λ m d.
       weight-ext (λ s. flags ls f m d r low high (s .place)) (paths (planOf r (marked m ls)))
-      ∙ ap (λ p. weight (λ s. isHeld (heldIn r (marked m ls)) (s .place)) (paths p)) (plan-marked m r ls)) in
+      ∙ ap (λ p. weight (λ s. isHeld (heldOfRound r (marked m ls)) (s .place)) (paths p)) (plan-marked m r ls)) in
       rw e (transfer ls f r low high F (λ h. weight-den (λ s. isHeld h (s .place)) (plan (donorsOf r ls) (liftsOf r ls) h)))
 
   one-donor : (t : ℕ) → donors r ls ≡ t ∷ [] → donorsOf r ls ≡ One (sumOf Old t ls)
@@ -93,8 +93,8 @@ pub fair : FairTheorem
 fair ls f =
     record {
       rounds = λ r d.
-          let q = those-in (λ r. ltb 0 (named New r ls)) 1 mostRounds r d in
-          let some = ltb-true 0 (named New r ls) (q .0) in
+          let q = filter-in (λ r. ltb 0 (liftCount New r ls)) 1 mostRounds r d in
+          let some = ltb-true 0 (liftCount New r ls) (q .0) in
           let high : r ≤ mostRounds = omega (arith, q .2) in
           record {
             shares = fair-shares f (q .1) high some;

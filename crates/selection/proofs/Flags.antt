@@ -15,12 +15,12 @@ use Rattle.round.specs.Choice.{isHeld}
 use Rattle.probability.specs.Initial.{Initial, here, elsewhere}
 use Rattle.round.specs.Share.{heldOf}
 use Rattle.sheet.specs.Sheet.{mostRounds, Lift}
-use Rattle.sheet.specs.Law.{Listed}
+use Rattle.sheet.specs.Law.{AllWellFormed}
 use Rattle.tally.specs.Law.{Fit}
 use Rattle.tally.proofs.Sending.{at-most-two}
-use Rattle.tally.proofs.Those.{those-has}
-use Rattle.tally.specs.Rounds.{comes, sends, donors, ofRound, heldIn as heldCount, further, heldAt}
-use Rattle.selection.specs.Choice.{heldAmong, heldIn, nobody, liftAt}
+use Rattle.tally.proofs.Ranges.{filter-has}
+use Rattle.tally.specs.Rounds.{brings, sends, donors, ofRound, heldCount, further, heldAt}
+use Rattle.selection.specs.Choice.{heldAmong, heldOfRound, noLift, liftInRound}
 use Rattle.selection.proofs.Sums.{ofRound-le}
 use Rattle.selection.proofs.Held.{proper, somewhere, held-one}
 
@@ -57,7 +57,7 @@ holds-counts t l = go (l .held) (eqb (l .old .round) t)
     go false false = refl
 
 -- where none counts, none is
-none-holds : (t : ℕ) (ls : List Lift) → heldCount t ls ≡ 0 → (i : ℕ) → holds t (getD ls i nobody) ≡ false
+none-holds : (t : ℕ) (ls : List Lift) → heldCount t ls ≡ 0 → (i : ℕ) → holds t (getD ls i noLift) ≡ false
 unfolding totalBy
 none-holds t [] e i = refl
 none-holds t (l ∷ ls) e zero = go (holds t l) (omega (arith, holds-counts t l))
@@ -68,7 +68,7 @@ none-holds t (l ∷ ls) e zero = go (holds t l) (omega (arith, holds-counts t l)
 none-holds t (l ∷ ls) e (suc i) = none-holds t ls (omega arith) i
 
 -- where at most one lift is, its place is found
-found : (t : ℕ) (ls : List Lift) → heldCount t ls ≤ 1 → (i : ℕ) → isAt (heldAt t ls) i ≡ holds t (getD ls i nobody)
+found : (t : ℕ) (ls : List Lift) → heldCount t ls ≤ 1 → (i : ℕ) → isAt (heldAt t ls) i ≡ holds t (getD ls i noLift)
 unfolding heldAt totalBy
 found t [] h i = refl
 found t (l ∷ ls) h zero = go (holds t l) (heldAt t ls)
@@ -79,7 +79,7 @@ found t (l ∷ ls) h zero = go (holds t l) (heldAt t ls)
     go false elsewhere = refl
 found t (l ∷ ls) h (suc i) = go (holds t l) refl (heldAt t ls) (found t ls (omega arith) i)
   where
-    go : (x : Bool) → holds t l ≡ x → (p : Initial) → isAt p i ≡ holds t (getD ls i nobody) → isAt (cond x (here 0) (further p)) (suc i) ≡ holds t (getD ls i nobody)
+    go : (x : Bool) → holds t l ≡ x → (p : Initial) → isAt p i ≡ holds t (getD ls i noLift) → isAt (cond x (here 0) (further p)) (suc i) ≡ holds t (getD ls i noLift)
     go true e p q = eqb·zero-suc i ∙ sym (none-holds t ls (omega (arith, holds-counts t l, ap indicator e)) i)
     go false e (here j) q = eqb·suc-suc j i ∙ q
     go false e elsewhere q = q
@@ -90,14 +90,14 @@ both false c h = refl
 
 -- the marks of lifts of at most two old rounds, at most one in each
 among : (ls : List Lift) → ((t : ℕ) → heldCount t ls ≤ 1) → (i : ℕ) (ds : List ℕ) → leb 3 (length ds) ≡ false
-    → (getD ls i nobody .held ≡ true → List·Memᴰ (getD ls i nobody .old .round) ds) → getD ls i nobody .held ≡ isHeld (heldAmong (λ t. heldAt t ls) ds) i
-among ls h i [] few m = both (getD ls i nobody .held) false (λ e. absurd (List·Memᴰ·not-nil (m e))) ∙ and-false (getD ls i nobody .held)
+    → (getD ls i noLift .held ≡ true → List·Memᴰ (getD ls i noLift .old .round) ds) → getD ls i noLift .held ≡ isHeld (heldAmong (λ t. heldAt t ls) ds) i
+among ls h i [] few m = both (getD ls i noLift .held) false (λ e. absurd (List·Memᴰ·not-nil (m e))) ∙ and-false (getD ls i noLift .held)
 among ls h i (d ∷ []) few m =
-    both (getD ls i nobody .held) _ (λ e. eq-eqb _ d (List·Memᴰ·eq-of-singleton (m e)))
+    both (getD ls i noLift .held) _ (λ e. eq-eqb _ d (List·Memᴰ·eq-of-singleton (m e)))
     ∙ sym (held-of (heldAt d ls) elsewhere i ∙ or-false _ ∙ found d ls (h d) i)
 among ls h i (d ∷ e ∷ []) few m =
-    both (getD ls i nobody .held) _ (λ q. either (List·Memᴰ·cases-cons (m q)))
-    ∙ and-or-distrib-left (getD ls i nobody .held) _ _ ∙ sym (held-of (heldAt d ls) (heldAt e ls) i ∙ ap₂ _||_ (found d ls (h d) i) (found e ls (h e) i))
+    both (getD ls i noLift .held) _ (λ q. either (List·Memᴰ·cases-cons (m q)))
+    ∙ and-or-distrib-left (getD ls i noLift .held) _ _ ∙ sym (held-of (heldAt d ls) (heldAt e ls) i ∙ ap₂ _||_ (found d ls (h d) i) (found e ls (h e) i))
   where
     either : {t : ℕ} → (t ≡ d) ⊎ List·Memᴰ t (e ∷ []) → (eqb t d || eqb t e) ≡ true
     either {t} (inl q) = rw (eq-eqb t d q)
@@ -112,20 +112,20 @@ ofRound-all P r (l ∷ ls) h =
     all-keep P (eqb (l .new .round) r) (λ e. h l (List·Memᴰ·head refl) (eqb-true (l .new .round) r e)) (ofRound-all P r ls (λ k m. h k (List·Memᴰ·tail m)))
 
 -- a lift of old measure above 0 makes its old round a donor
-pub sends-has : (t r : ℕ) {l : Lift} {ls : List Lift} → List·Memᴰ l ls → comes t r l ≡ true → sends t r ls ≡ true
+pub sends-has : (t r : ℕ) {l : Lift} {ls : List Lift} → List·Memᴰ l ls → brings t r l ≡ true → sends t r ls ≡ true
 unfolding sends
 sends-has t r (List·Memᴰ·head {xs = ls} e) c = rw (← e, c)
-sends-has t r (List·Memᴰ·tail {x = x} m) c = rw (sends-has t r m c) (or-true (comes t r x))
+sends-has t r (List·Memᴰ·tail {x = x} m) c = rw (sends-has t r m c) (or-true (brings t r x))
 
 -- where lifts fit, the marks are the held lifts that the round's choice starts from
-pub flagged : (ls : List Lift) → Fit ls → (r : ℕ) → 1 ≤ r → r ≤ mostRounds → (i : ℕ) → liftAt r ls i .held ≡ isHeld (heldIn r ls) i
-unfolding liftAt heldIn
+pub flagged : (ls : List Lift) → Fit ls → (r : ℕ) → 1 ≤ r → r ≤ mostRounds → (i : ℕ) → liftInRound r ls i .held ≡ isHeld (heldOfRound r ls) i
+unfolding liftInRound heldOfRound
 flagged ls f r a b i =
     among (ofRound r ls) (λ t. le-trans (ofRound-le (λ l. l .old .round) (λ l. indicator (l .held)) t r ls) (held-one ls d (f .rounds .held) t)) i (donors r ls) (at-most-two ls r (f .rounds .donors r a b))
     (all-getD Donor (λ e. absurd (false≢true e)) (ofRound r ls) (ofRound-all Donor r ls donor) i)
   where
-    d : Listed 0 ls
-    d = f .listable .listed
+    d : AllWellFormed 0 ls
+    d = f .wellFormed .listed
 
     Donor : Lift → Type 0
     Donor l = l .held ≡ true → List·Memᴰ (l .old .round) (donors r ls)
@@ -133,6 +133,6 @@ flagged ls f r a b i =
     donor : All (λ l. l .new .round ≡ r → Donor l) ls
     donor l m q e =
         let p = proper 0 ls d l m in
-        those-has (λ t. sends t r ls) 1 mostRounds (l .old .round)
+        filter-has (λ t. sends t r ls) 1 mostRounds (l .old .round)
         (sends-has (l .old .round) r m (rw (eq-eqb (l .old .round) (l .old .round) refl, eq-eqb (l .new .round) r q, lt-ltb 0 (l .old .measure) (p .held e))))
         (somewhere p e) (omega (arith, p .old .round))

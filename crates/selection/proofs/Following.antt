@@ -15,14 +15,14 @@ use Rattle.sheet.specs.Sheet.{Lift, lifts}
 use Rattle.tally.specs.Rounds.{inUse}
 use Rattle.reply.specs.Reply.{replied}
 use Rattle.sheet.specs.Lift.{New}
-use Rattle.selection.specs.Choice.{heldIn, planOf, liftAt, Choice, chosen, panel, reply, pair, written, output}
+use Rattle.selection.specs.Choice.{heldOfRound, planOf, liftInRound, Choice, chosen, panel, reply, pair, writtenPairs, output}
 use Rattle.selection.specs.Fair.{draws}
 use Rattle.selection.proofs.Replies.{ran}
 use Rattle.selection.proofs.Steps.{made, Steps, none, some, steps}
 
 -- the pair of a finished run of round r
 abbrev pub pairFor : ℕ → List Lift → Selection → List ℕ
-pairFor r ls s = pair r (liftAt r ls (s .place) .number) (outcome (heldIn r ls) s)
+pairFor r ls s = pair r (liftInRound r ls (s .place) .number) (outcome (heldOfRound r ls) s)
 
 -- the i-th pair comes from a run of round r's plan
 record Comes (ls : List Lift) (ws : List ℕ) (cs : List Choice) (i r : ℕ) : Type 0 where
@@ -30,11 +30,11 @@ record Comes (ls : List Lift) (ws : List ℕ) (cs : List Choice) (i r : ℕ) : T
   next : ℕ
   result : Selection
   drew : run largest ws from (planOf r ls) ≡ finished (getD (map (λ c. c .values) cs) i []) result next
-  wrote : (out : List ℕ) → slice (2 * i) (2 * i + 2) (written cs out) ≡ pairFor r ls result
+  wrote : (out : List ℕ) → slice (2 * i) (2 * i + 2) (writtenPairs cs out) ≡ pairFor r ls result
 
 -- the pairs behind the first one
-slice-behind : (c : Choice) (cs : List Choice) (out : List ℕ) (i : ℕ) → slice (2 * suc i) (2 * suc i + 2) (written (c ∷ cs) out) ≡ slice (2 * i) (2 * i + 2) (written cs (drop 2 out))
-unfolding written
+slice-behind : (c : Choice) (cs : List Choice) (out : List ℕ) (i : ℕ) → slice (2 * suc i) (2 * suc i + 2) (writtenPairs (c ∷ cs) out) ≡ slice (2 * i) (2 * i + 2) (writtenPairs cs (drop 2 out))
+unfolding writtenPairs
 slice-behind c cs out i =
     let a : 2 * suc i ≡ suc (suc (2 * i)) = omega arith in
     let b : 2 * suc i + 2 ≡ suc (suc (2 * i + 2)) = omega arith in
@@ -42,7 +42,7 @@ slice-behind c cs out i =
 
 come : (ls : List Lift) (ws : List ℕ) {from next : ℕ} {rs : List ℕ} {cs : List Choice} → Steps ls ws from rs cs next → (i : ℕ) → i < length rs
     → Comes ls ws cs i (getD rs i 0)
-unfolding written
+unfolding writtenPairs
 come ls ws none i h = absurd (omega arith)
 come ls ws (some {from = from} {n = n} {s = s} q k) zero h = record { from = from; next = n; result = s; drew = q; wrote = λ out. refl }
 come ls ws (some {r = r} {cs = cs} {vs = vs} {s = s} q k) (suc i) h =

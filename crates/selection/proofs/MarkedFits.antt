@@ -11,15 +11,15 @@ use Rattle.probability.specs.Sum.{totalBy, indicator}
 use Rattle.probability.proofs.Lists.{All}
 use Rattle.round.specs.Choice.{isHeld}
 use Rattle.sheet.specs.Sheet.{mostRounds, Lift, lifts, sheetOf}
-use Rattle.tally.specs.Rounds.{named, inUse, donors, heldIn as heldCount}
-use Rattle.tally.specs.Verdict.{fits, unheld, oversize, unmeasured, crowded, verdict}
-use Rattle.sheet.specs.Law.{Listed, Listable}
+use Rattle.tally.specs.Rounds.{liftCount, inUse, donors, heldCount}
+use Rattle.tally.specs.Verdict.{fits, notOneHeld, oversize, zeroSum, tooManyDonors, verdict}
+use Rattle.sheet.specs.Law.{AllWellFormed, WellFormed}
 use Rattle.tally.specs.Law.{Nowhere, Fit}
 use Rattle.sheet.specs.Lift.{Old, New}
-use Rattle.tally.proofs.Those.{those-has, those-once}
+use Rattle.tally.proofs.Ranges.{filter-has, filter-once}
 use Rattle.sheet.proofs.Trips.{written-theorem}
 use Rattle.tally.proofs.Verdicts.{decided, fits-sheet}
-use Rattle.selection.specs.Choice.{heldIn, liftAt}
+use Rattle.selection.specs.Choice.{heldOfRound, liftInRound}
 use Rattle.selection.specs.Initial.{selections, names, marked}
 use Rattle.selection.proofs.Marks.{named-marked, sumOf-marked, inUse-marked, donors-marked, length-marked}
 use Rattle.selection.proofs.Held.{sheet-short}
@@ -36,8 +36,8 @@ held-marked m t (l ∷ ls) = ap (λ n. cond (eqb (l .old .round) t) (indicator (
 
 -- a sheet can tell them, if those named have old measure above 0
 listed-marked : (m : List Lift) (n : ℕ) (ls : List Lift) → All (λ l. names m (l .number) ≡ true → 0 < l .old .measure) ls
-    → Listed n ls → Listed n (marked m ls)
-unfolding marked Listed
+    → AllWellFormed n ls → AllWellFormed n (marked m ls)
+unfolding marked AllWellFormed
 listed-marked m n [] h d = tt
 listed-marked m n (l ∷ ls) h (p, d) = (
   record { rises = p .rises; payload = p .payload; old = p .old; new = p .new; newcomer = p .newcomer; held = h l (List·Memᴰ·head refl) },
@@ -48,34 +48,34 @@ listed-marked m n (l ∷ ls) h (p, d) = (
 
 -- lifts that fit, but for their held marks
 pub record Unmarked (ls : List Lift) : Type 0 where
-  pub listable : Listable ls
+  pub wellFormed : WellFormed ls
   pub old : Nowhere (oversize Old ls)
   pub new : Nowhere (oversize New ls)
-  pub measured : Nowhere (unmeasured ls)
-  pub donors : Nowhere (crowded ls)
+  pub measured : Nowhere (zeroSum ls)
+  pub donors : Nowhere (tooManyDonors ls)
 
 unmarked : {ls : List Lift} → Fit ls → Unmarked ls
-unmarked f = record { listable = f .listable; old = f .rounds .old; new = f .rounds .new; measured = f .rounds .measured; donors = f .rounds .donors }
+unmarked f = record { wellFormed = f .wellFormed; old = f .rounds .old; new = f .rounds .new; measured = f .rounds .measured; donors = f .rounds .donors }
 
 module _ {ls : List Lift} (f : Unmarked ls) {m : List Lift} (chosen : Selected ls (inUse Old ls) m) where
   -- one lift is held in each old round in use
-  held-marks : (r : ℕ) → 1 ≤ r → r ≤ mostRounds → unheld (marked m ls) r ≡ false
-  held-marks r l h = rw (named-marked m Old r ls, held-marked m r ls) (go (ltb 0 (named Old r ls)) refl)
+  held-marks : (r : ℕ) → 1 ≤ r → r ≤ mostRounds → notOneHeld (marked m ls) r ≡ false
+  held-marks r l h = rw (named-marked m Old r ls, held-marked m r ls) (go (ltb 0 (liftCount Old r ls)) refl)
     where
-      go : (x : Bool) → ltb 0 (named Old r ls) ≡ x → (x && not (eqb (count ls r m) 1)) ≡ false
+      go : (x : Bool) → ltb 0 (liftCount Old r ls) ≡ x → (x && not (eqb (count ls r m) 1)) ≡ false
       go true e =
-          let used : List·Memᴰ r (inUse Old ls) = those-has (λ t. ltb 0 (named Old t ls)) 1 mostRounds r e l (omega arith) in
+          let used : List·Memᴰ r (inUse Old ls) = filter-has (λ t. ltb 0 (liftCount Old t ls)) 1 mostRounds r e l (omega arith) in
           rw (eq-eqb (count ls r m) 1
-          (omega (arith, most ls (f .listable .listed) r chosen, those-once (λ t. ltb 0 (named Old t ls)) 1 mostRounds r, least ls (f .listable .listed) r chosen used)))
+          (omega (arith, most ls (f .wellFormed .listed) r chosen, filter-once (λ t. ltb 0 (liftCount Old t ls)) 1 mostRounds r, least ls (f .wellFormed .listed) r chosen used)))
       go false e = refl
 
   -- so marked the lifts fit
   pub fit-marked : Fit (marked m ls)
   fit-marked =
       record {
-        listable = record {
-          listed = listed-marked m 0 ls (measured ls (f .listable .listed) chosen) (f .listable .listed);
-          few = rw (length-marked m ls) (f .listable .few);
+        wellFormed = record {
+          listed = listed-marked m 0 ls (measured ls (f .wellFormed .listed) chosen) (f .wellFormed .listed);
+          few = rw (length-marked m ls) (f .wellFormed .few);
         };
         rounds = record {
           held = held-marks;
@@ -90,11 +90,11 @@ module _ (ls : List Lift) (f : Fit ls) (m : List Lift) (i : List·Memᴰ m (sele
   fit : Fit (marked m ls)
   fit = fit-marked (unmarked f) (selected (inUse Old ls) ls m i)
 
-  pub flags : (r : ℕ) → 1 ≤ r → r ≤ mostRounds → (i : ℕ) → liftAt r (marked m ls) i .held ≡ isHeld (heldIn r (marked m ls)) i
+  pub flags : (r : ℕ) → 1 ≤ r → r ≤ mostRounds → (i : ℕ) → liftInRound r (marked m ls) i .held ≡ isHeld (heldOfRound r (marked m ls)) i
   flags = flagged (marked m ls) fit
 
   pub back : lifts (sheetOf (marked m ls)) ≡ marked m ls
-  back = written-theorem (marked m ls) (fit .listable) .back
+  back = written-theorem (marked m ls) (fit .wellFormed) .back
 
   -- and so does their sheet
   pub marked-fits : verdict (sheetOf (marked m ls)) ≡ fits (length ls) (length (inUse New ls))

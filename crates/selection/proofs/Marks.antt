@@ -8,8 +8,8 @@ use lib.ListN.{length, length-map}
 use Rattle.probability.specs.Sum.{totalBy}
 use Rattle.sheet.specs.Sheet.{mostRounds, Lift}
 use Rattle.sheet.specs.Lift.{Side, Old, New, placeAt}
-use Rattle.tally.proofs.Those.{those-ext}
-use Rattle.tally.specs.Rounds.{named, inUse, sumOf, comes, sends, donors, ofRound, donorNumber}
+use Rattle.tally.proofs.Ranges.{filter-ext}
+use Rattle.tally.specs.Rounds.{liftCount, inUse, sumOf, brings, sends, donors, ofRound, donorNumber}
 use Rattle.selection.specs.Choice.{withSums, donorsOf, inRound, liftsOf}
 use Rattle.selection.specs.Initial.{holding, marked}
 
@@ -26,22 +26,22 @@ module _ (m : List Lift) where
   totalBy-marked side value h r (l ∷ ls) =
       ap₂ _+_ (ap₂ (λ p v. cond (eqb (p .round) r) v 0) (place-holding side l) (h l)) (totalBy-marked side value h r ls)
 
-  pub named-marked : (side : Side) (r : ℕ) (ls : List Lift) → named side r (marked m ls) ≡ named side r ls
+  pub named-marked : (side : Side) (r : ℕ) (ls : List Lift) → liftCount side r (marked m ls) ≡ liftCount side r ls
   named-marked side r ls = totalBy-marked side (λ _. 1) (λ l. refl) r ls
 
   pub sumOf-marked : (side : Side) (r : ℕ) (ls : List Lift) → sumOf side r (marked m ls) ≡ sumOf side r ls
   sumOf-marked side r ls = totalBy-marked side (λ l. placeAt side l .measure) (λ l. ap (λ p. p .measure) (place-holding side l)) r ls
 
   pub inUse-marked : (side : Side) (ls : List Lift) → inUse side (marked m ls) ≡ inUse side ls
-  inUse-marked side ls = those-ext 1 mostRounds (λ r _ _. ap (ltb 0) (named-marked side r ls))
+  inUse-marked side ls = filter-ext 1 mostRounds (λ r _ _. ap (ltb 0) (named-marked side r ls))
 
   pub sends-marked : (t r : ℕ) (ls : List Lift) → sends t r (marked m ls) ≡ sends t r ls
   unfolding marked sends
   sends-marked t r [] = refl
-  sends-marked t r (l ∷ ls) = ap (λ x. comes t r l || x) (sends-marked t r ls)
+  sends-marked t r (l ∷ ls) = ap (λ x. brings t r l || x) (sends-marked t r ls)
 
   pub donors-marked : (r : ℕ) (ls : List Lift) → donors r (marked m ls) ≡ donors r ls
-  donors-marked r ls = those-ext 1 mostRounds (λ t _ _. sends-marked t r ls)
+  donors-marked r ls = filter-ext 1 mostRounds (λ t _ _. sends-marked t r ls)
 
   pub ofRound-marked : (r : ℕ) (ls : List Lift) → ofRound r (marked m ls) ≡ marked m (ofRound r ls)
   unfolding marked ofRound

@@ -14,14 +14,14 @@ use Rattle.probability.specs.Fraction.{Fraction, _//_, _⊕_, _⊗_, _≈_, sum
 use Rattle.probability.proofs.Sums.{Σ-map, totalBy-map}
 use Rattle.probability.proofs.Fractions.{pos-right, ≈-refl, ≈-trans, ≈-num, ⊕-≈, ⊗-assoc, ⊗-≈, sumOver-++, sumOver-map, sumOver-part, sum-≈, sum-same, sum-right}
 use Rattle.sheet.specs.Sheet.{Lift}
-use Rattle.tally.specs.Rounds.{those, sumOf}
+use Rattle.tally.specs.Rounds.{filterRange, sumOf}
 use Rattle.sheet.specs.Lift.{Old}
-use Rattle.selection.specs.Choice.{nobody}
-use Rattle.selection.specs.Initial.{eligible, each, selectionsFrom, product, odds}
+use Rattle.selection.specs.Choice.{noLift}
+use Rattle.selection.specs.Initial.{eligible, each, selectionsFrom, product, initialWeight}
 
 -- the lift at a place of a list
 abbrev pub nth : List Lift → ℕ → Lift
-nth ls i = getD ls i nobody
+nth ls i = getD ls i noLift
 
 -- the old measure of a lift of old round t, 0 of another
 abbrev pub brought : ℕ → Lift → ℕ
@@ -52,7 +52,7 @@ mean-const : (t : ℕ) (ls : List Lift) → 0 < sumOf Old t ls → (q : Fraction
 unfolding mean
 mean-const t ls p q d =
     let T = sumOf Old t ls in
-    let e = Σ-map (brought t) nobody ls ∙ sym (totalBy-map (λ l. l .old .round) (λ l. l .old .measure) t ls) in
+    let e = Σ-map (brought t) noLift ls ∙ sym (totalBy-map (λ l. l .old .round) (λ l. l .old .measure) t ls) in
     let w = ≈-num e (sum-same (length ls) {f = λ i. brought t (nth ls i) // T} {a = λ i. brought t (nth ls i)} {S = T} p (λ i _. ≈-refl p)) in
     ≈-trans (sum-right (length ls) q (λ i. brought t (nth ls i) // T) d (λ i _. p))
     (≈-trans (⊗-≈ w (≈-refl d)) (record { cross = omega arith; left = mul-pos p d; right = d }))
@@ -84,19 +84,19 @@ means (t ∷ ts) ls f = mean t (sumOf Old t ls) ls (λ l. means ts ls (λ m. f (
 
 -- the mean over one more old round
 mean-first : (t : ℕ) (ts : List ℕ) (ms : List (List Lift)) (ls : List Lift) → 0 < sumOf Old t ls → (f : List Lift → Fraction) (h : Lift → Fraction)
-    → ((l : Lift) → sumOver ms (λ m. odds ts m ls ⊗ f (l ∷ m)) ≈ h l)
-    → sumOver (each (eligible t ls) ms) (λ m. odds (t ∷ ts) m ls ⊗ f m) ≈ mean t (sumOf Old t ls) ls h
-unfolding product odds
+    → ((l : Lift) → sumOver ms (λ m. initialWeight ts m ls ⊗ f (l ∷ m)) ≈ h l)
+    → sumOver (each (eligible t ls) ms) (λ m. initialWeight (t ∷ ts) m ls ⊗ f m) ≈ mean t (sumOf Old t ls) ls h
+unfolding product initialWeight
 mean-first t ts ms ls p f h e =
     mean-each t (sumOf Old t ls) p ms whole h
     (λ l.
     let q : Fraction = l .old .measure // sumOf Old t ls in
-    let part = sumOver-part q p (λ m. odds ts m ls ⊗ f (l ∷ m)) (λ m. whole (l ∷ m)) (λ m. ⊗-assoc q (odds ts m ls) (f (l ∷ m))) ms (e l .left) in
+    let part = sumOver-part q p (λ m. initialWeight ts m ls ⊗ f (l ∷ m)) (λ m. whole (l ∷ m)) (λ m. ⊗-assoc q (initialWeight ts m ls) (f (l ∷ m))) ms (e l .left) in
     ≈-trans part (⊗-≈ (≈-refl p) (e l)))
     ls
   where
     whole : List Lift → Fraction
-    whole m = odds (t ∷ ts) m ls ⊗ f m
+    whole m = initialWeight (t ∷ ts) m ls ⊗ f m
 
 -- f doesn't look at the lifts of old rounds that fail the test
 abbrev pub Unseen : (ℕ → Bool) → List Lift → (List Lift → Fraction) → Type 0
@@ -106,7 +106,7 @@ Unseen q ls f = (k m : List Lift) (i : ℕ) → i < length ls → q (nth ls i .o
 abbrev pub Reduces : (ℕ → Bool) → List Lift → List ℕ → List ℕ → Type 0
 Reduces q ls ts ds =
     (f : List Lift → Fraction) → ((m : List Lift) → 0 < f m .den) → Unseen q ls f
-    → sumOver (selectionsFrom ts ls) (λ m. odds ts m ls ⊗ f m) ≈ means ds ls f
+    → sumOver (selectionsFrom ts ls) (λ m. initialWeight ts m ls ⊗ f m) ≈ means ds ls f
 
 -- one more old round, looked at or not
 module _ (q : ℕ → Bool) (ls : List Lift) (t : ℕ) (ts ds : List ℕ) (p : 0 < sumOf Old t ls) (r : Reduces q ls ts ds) where
@@ -129,17 +129,17 @@ module _ (q : ℕ → Bool) (ls : List Lift) (t : ℕ) (ts ds : List ℕ) (p : 0
 
 -- the old rounds that fail the test drop out
 pub reduced : (ls : List Lift) (p q : ℕ → Bool) → ((t : ℕ) → q t ≡ true → p t ≡ true)
-    → (a n : ℕ) → ((t : ℕ) → a ≤ t → t < a + n → p t ≡ true → 0 < sumOf Old t ls) → Reduces q ls (those p a n) (those q a n)
-unfolding those selectionsFrom sumOver product odds means
+    → (a n : ℕ) → ((t : ℕ) → a ≤ t → t < a + n → p t ≡ true → 0 < sumOf Old t ls) → Reduces q ls (filterRange p a n) (filterRange q a n)
+unfolding filterRange selectionsFrom sumOver product initialWeight means
 reduced ls p q h a zero s = λ f d u. record { cross = omega arith; left = omega (arith, d []); right = d [] }
 reduced ls p q h a (suc n) s =
     go (p a) (q a) refl refl (reduced ls p q h (suc a) n (λ t l m. s t (omega arith) (omega arith)))
   where
     ts : List ℕ
-    ts = those p (suc a) n
+    ts = filterRange p (suc a) n
 
     ds : List ℕ
-    ds = those q (suc a) n
+    ds = filterRange q (suc a) n
 
     go : (x y : Bool) → p a ≡ x → q a ≡ y → Reduces q ls ts ds → Reduces q ls (cond x (a ∷ ts) ts) (cond y (a ∷ ds) ds)
     go true true e k r = seen q ls a ts ds (s a (omega arith) (omega arith) e) r

@@ -12,24 +12,24 @@ use Rattle.probability.specs.Sum.{totalBy, indicator}
 use Rattle.probability.proofs.Lists.{All, all-none, all-more, all-keep, all-append, all-map}
 use Rattle.probability.proofs.Sums.{totalBy-none, totalBy-sum, totalBy-le}
 use Rattle.sheet.specs.Sheet.{Lift}
-use Rattle.sheet.specs.Law.{Listed}
+use Rattle.sheet.specs.Law.{AllWellFormed}
 use Rattle.selection.specs.Initial.{eligible, each, selectionsFrom, names}
 use Rattle.selection.proofs.Held.{oldRound, proper}
 
 -- ---- lifts of one number
 
 -- a number tells the lift
-pub same : {a : Lift} {ls : List Lift} → List·Memᴰ a ls → (n : ℕ) → Listed n ls → All (λ l. a .number ≡ l .number → a ≡ l) ls
-unfolding Listed
+pub same : {a : Lift} {ls : List Lift} → List·Memᴰ a ls → (n : ℕ) → AllWellFormed n ls → All (λ l. a .number ≡ l .number → a ≡ l) ls
+unfolding AllWellFormed
 same {a} (List·Memᴰ·head {x = x} {xs = ls} e) n d =
     all-more (λ l. a .number ≡ l .number → a ≡ l) (λ _. e) (λ l m q. absurd (omega (arith, proper (x .number) ls (d .1) l m .rises, ap (λ y. y .number) e)))
 same {a} (List·Memᴰ·tail {x = x} {xs = ls} h) n d =
     all-more (λ l. a .number ≡ l .number → a ≡ l) (λ q. absurd (omega (arith, proper (x .number) ls (d .1) a h .rises))) (same h (x .number) (d .1))
 
 -- and stands there once
-once : (key : Lift → ℕ) (t : ℕ) {a : Lift} {ls : List Lift} → List·Memᴰ a ls → (n : ℕ) → Listed n ls
+once : (key : Lift → ℕ) (t : ℕ) {a : Lift} {ls : List Lift} → List·Memᴰ a ls → (n : ℕ) → AllWellFormed n ls
     → totalBy key (λ l. indicator (eqb (a .number) (l .number))) t ls ≡ cond (eqb (key a) t) 1 0
-unfolding Listed totalBy
+unfolding AllWellFormed totalBy
 once key t {a} (List·Memᴰ·head {x = x} {xs = ls} e) n d =
     rw (e, eq-eqb (x .number) (x .number) refl)
     (omega (
@@ -97,7 +97,7 @@ or-right a false = omega arith
 abbrev pub count : List Lift → ℕ → List Lift → ℕ
 count ls t m = totalBy oldRound (λ l. indicator (names m (l .number))) t ls
 
-module _ (ls : List Lift) (d : Listed 0 ls) where
+module _ (ls : List Lift) (d : AllWellFormed 0 ls) where
   -- a lift that is named has old measure above 0
   pub measured : {ts : List ℕ} {m : List Lift} → Selected ls ts m → All (λ l. names m (l .number) ≡ true → 0 < l .old .measure) ls
   unfolding among

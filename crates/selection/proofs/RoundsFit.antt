@@ -8,7 +8,7 @@ use lib.Dec.{eqb}
 use lib.ListN.{length, length-map}
 use borrow.Author.Tests.{eqb-true, eqb-false, lt-ltb, ltb-false, leb-false}
 use Rattle.probability.proofs.Tests.{eqb-comm}
-use Rattle.round.specs.Round.{S, Sends, Donate, Fitting as RoundFitting}
+use Rattle.round.specs.Round.{S, IsDonor, AreDonors, WellPosed as RoundFitting}
 use Rattle.probability.specs.Initial.{Initial, here, elsewhere}
 use Rattle.round.specs.Share.{heldOf}
 use Rattle.round.specs.declared.Donors.the-variants.{One, Two}
@@ -17,9 +17,9 @@ use Rattle.sheet.specs.Sheet.{mostRounds, largestSum, Lift}
 use Rattle.tally.specs.Law.{Fit}
 use Rattle.sheet.specs.Lift.{Old, New}
 use Rattle.tally.proofs.Sending.{at-most-two}
-use Rattle.tally.proofs.Those.{those-head}
-use Rattle.tally.specs.Rounds.{named, sumOf, sends, donors, ofRound, donorNumber, further, heldAt}
-use Rattle.selection.specs.Choice.{withSums, donorsOf, inRound, liftsOf, heldAmong, heldIn}
+use Rattle.tally.proofs.Ranges.{filter-head}
+use Rattle.tally.specs.Rounds.{liftCount, sumOf, sends, donors, ofRound, donorNumber, further, heldAt}
+use Rattle.selection.specs.Choice.{withSums, donorsOf, inRound, liftsOf, heldAmong, heldOfRound}
 use Rattle.selection.proofs.Sums.{S-sum, U-sum, ofRound-le, sends-some}
 
 -- ---- donors
@@ -80,10 +80,10 @@ module _ {ls : List Lift} (f : Fit ls) {r : ℕ} (low : 1 ≤ r) (high : r ≤ m
 
       go : (ds : List ℕ) → donors r ls ≡ ds → Senders r ls ds
       go [] q = none
-      go (d ∷ []) q = let h = those-head p 1 mostRounds d [] q in one (h .passes) (h .from) (omega (arith, h .upto))
+      go (d ∷ []) q = let h = filter-head p 1 mostRounds d [] q in one (h .passes) (h .from) (omega (arith, h .upto))
       go (d ∷ e ∷ []) q =
-          let h = those-head p 1 mostRounds d (e ∷ []) q in
-          let k = those-head p (suc d) (1 + mostRounds - suc d) e [] (sym (h .rest)) in
+          let h = filter-head p 1 mostRounds d (e ∷ []) q in
+          let k = filter-head p (suc d) (1 + mostRounds - suc d) e [] (sym (h .rest)) in
           two (h .passes) (k .passes) (h .from) (k .from) (omega (arith, h .upto, k .upto))
       go (d ∷ e ∷ c ∷ ds) q = absurd (omega (arith, leb-false 3 (length (donors r ls)) (at-most-two ls r (f .rounds .donors r low high)), ap length q))
 
@@ -94,12 +94,12 @@ module _ {ls : List Lift} (f : Fit ls) {r : ℕ} (low : 1 ≤ r) (high : r ≤ m
   sum-old d l h = ltb-false largestSum (sumOf Old d ls) (f .rounds .old d l h)
 
   -- what a donor sends is a part of its old sum
-  sent : (number : ℕ → ℕ) (k d : ℕ) → ((t : ℕ) → eqb (number t) k ≡ eqb t d) → sends d r ls ≡ true → Sends k (sumOf Old d ls) (map (inRound number) (ofRound r ls))
+  sent : (number : ℕ → ℕ) (k d : ℕ) → ((t : ℕ) → eqb (number t) k ≡ eqb t d) → sends d r ls ≡ true → IsDonor k (sumOf Old d ls) (map (inRound number) (ofRound r ls))
   sent number k d h s =
       let e = U-sum number k d h (ofRound r ls) in
       record { some = rw e (sends-some d r ls s); part = rw e (ofRound-le (λ l. l .old .round) (λ l. l .old .measure) d r ls) }
 
-  donated : (ds : List ℕ) → Senders r ls ds → Donate (withSums (λ t. sumOf Old t ls) ds) (map (inRound (donorNumber ds)) (ofRound r ls))
+  donated : (ds : List ℕ) → Senders r ls ds → AreDonors (withSums (λ t. sumOf Old t ls) ds) (map (inRound (donorNumber ds)) (ofRound r ls))
   donated [] none = tt
   donated (d ∷ []) (one s l h) = sent (donorNumber (d ∷ [])) 1 d (number-first d []) s
   donated (d ∷ c ∷ []) (two s t l m h) = (sent (donorNumber (d ∷ c ∷ [])) 1 d (number-first d (c ∷ [])) s, sent (donorNumber (d ∷ c ∷ [])) 2 c (number-second d c [] m) t)
@@ -114,14 +114,14 @@ module _ {ls : List Lift} (f : Fit ls) {r : ℕ} (low : 1 ≤ r) (high : r ≤ m
   unfolding liftsOf
   S-round = S-sum (donorNumber (donors r ls)) r ls
 
-  pub positive : 0 < named New r ls → 0 < sumOf New r ls
+  pub positive : 0 < liftCount New r ls → 0 < sumOf New r ls
   positive n = go (eqb (sumOf New r ls) 0) refl
     where
       go : (t : Bool) → eqb (sumOf New r ls) 0 ≡ t → 0 < sumOf New r ls
-      go true e = absurd (true≢false (sym (ap₂ _&&_ (lt-ltb 0 (named New r ls) n) e) ∙ f .rounds .measured r low high))
+      go true e = absurd (true≢false (sym (ap₂ _&&_ (lt-ltb 0 (liftCount New r ls) n) e) ∙ f .rounds .measured r low high))
       go false e = omega (arith, eqb-false (sumOf New r ls) 0 e)
 
-  pub round-fits : 0 < named New r ls → RoundFitting (donorsOf r ls) (liftsOf r ls)
+  pub round-fits : 0 < liftCount New r ls → RoundFitting (donorsOf r ls) (liftsOf r ls)
   unfolding donorsOf liftsOf
   round-fits n = record { positive = rw S-round (positive n); donate = donated (donors r ls) senders }
 
@@ -144,8 +144,8 @@ module _ {ls : List Lift} (f : Fit ls) {r : ℕ} (low : 1 ≤ r) (high : r ≤ m
       go elsewhere (here j) k n = n
       go elsewhere elsewhere k n = tt
 
-  pub round-stands : Stands (donorsOf r ls) (heldIn r ls) (length (liftsOf r ls))
-  unfolding donorsOf heldIn liftsOf
+  pub round-stands : Stands (donorsOf r ls) (heldOfRound r ls) (length (liftsOf r ls))
+  unfolding donorsOf heldOfRound liftsOf
   round-stands =
       rw (length-map (ofRound r ls) (inRound (donorNumber (donors r ls))))
       (stands-among (donors r ls) senders (ofRound r ls))

@@ -12,11 +12,11 @@ use Rattle.probability.specs.Among.{among}
 use Rattle.probability.specs.Sum.{over, totalBy}
 use Rattle.probability.specs.Fraction.{Fraction, _//_, _⊕_, _⊗_, _≈_, sum}
 use Rattle.probability.proofs.Fractions.{pos-left, ≈-refl, ≈-trans, ⊕-assoc, ⊕-≈}
-use Rattle.round.specs.Round.{liftAt, sent, U}
+use Rattle.round.specs.Round.{liftAt, measureFrom, U}
 use Rattle.probability.specs.Initial.{Initial, here, elsewhere}
 use Rattle.round.specs.declared.Lift.{Lift as RoundLift}
 use Rattle.sheet.specs.Sheet.{Lift}
-use Rattle.sheet.specs.Law.{Listed}
+use Rattle.sheet.specs.Law.{AllWellFormed}
 use Rattle.sheet.specs.Lift.{Old}
 use Rattle.tally.specs.Rounds.{sumOf, ofRound, further, heldAt}
 use Rattle.selection.specs.Choice.{inRound}
@@ -27,14 +27,14 @@ use Rattle.selection.proofs.Means.{nth, brought, mean, brought-≈, mea
 -- ---- numbers
 
 -- lift numbers rise, so no two lifts have the same
-above : (n : ℕ) (ls : List Lift) → Listed n ls → (i : ℕ) → i < length ls → n < nth ls i .number
-unfolding Listed
+above : (n : ℕ) (ls : List Lift) → AllWellFormed n ls → (i : ℕ) → i < length ls → n < nth ls i .number
+unfolding AllWellFormed
 above n [] d i b = absurd (omega arith)
 above n (l ∷ ls) d zero b = d .0 .rises
 above n (l ∷ ls) d (suc i) b = omega (arith, d .0 .rises, above (l .number) ls (d .1) i (omega arith))
 
-pub numbered-once : (n : ℕ) (ls : List Lift) → Listed n ls → (i j : ℕ) → i < length ls → j < length ls → nth ls i .number ≡ nth ls j .number → nth ls i ≡ nth ls j
-unfolding Listed
+pub numbered-once : (n : ℕ) (ls : List Lift) → AllWellFormed n ls → (i j : ℕ) → i < length ls → j < length ls → nth ls i .number ≡ nth ls j .number → nth ls i ≡ nth ls j
+unfolding AllWellFormed
 numbered-once n [] d i j b c e = absurd (omega arith)
 numbered-once n (l ∷ ls) d zero zero b c e = refl
 numbered-once n (l ∷ ls) d zero (suc j) b c e = absurd (omega (arith, above (l .number) ls (d .1) j (omega arith)))
@@ -87,7 +87,7 @@ stands-later t l u us h = rw (ne-eqb (l .number) (u .number) h)
 
 -- the mean over the initial selections of donor k, if its lifts measure S and weigh by T
 abbrev pub placed : ℕ → ℕ → ℕ → List RoundLift → (Initial → Fraction) → Fraction
-placed k T S us f = sum (length us) (λ i. sent k (liftAt us i) // T ⊗ f (here i)) ⊕ (S - U k us) // T ⊗ f elsewhere
+placed k T S us f = sum (length us) (λ i. measureFrom k (liftAt us i) // T ⊗ f (here i)) ⊕ (S - U k us) // T ⊗ f elsewhere
 
 -- one more part of what stands elsewhere
 away-more : {s : Fraction} (T b c : ℕ) (q e : Fraction) → 0 < T → 0 < q .den → 0 < e .den → s ≈ q ⊕ c // T ⊗ e → b // T ⊗ e ⊕ s ≈ q ⊕ (b + c) // T ⊗ e
@@ -101,9 +101,9 @@ module _ (t r k : ℕ) (key : ℕ → ℕ) (own : (s : ℕ) → eqb (key s) k �
   came-part ls = rw (U-sum key k t own (ofRound r ls)) (ofRound-le (λ l. l .old .round) (λ l. l .old .measure) t r ls)
 
   -- a donor's lifts by their places here, and what stands elsewhere
-  pub sorted : (T : ℕ) → 0 < T → (n : ℕ) (ls : List Lift) → Listed n ls → (f : Initial → Fraction) → ((x : Initial) → 0 < f x .den)
+  pub sorted : (T : ℕ) → 0 < T → (n : ℕ) (ls : List Lift) → AllWellFormed n ls → (f : Initial → Fraction) → ((x : Initial) → 0 < f x .den)
       → mean t T ls (λ l. f (stands t l (ofRound r ls))) ≈ placed k T (sumOf Old t ls) (map (inRound key) (ofRound r ls)) f
-  unfolding mean over totalBy U ofRound Listed
+  unfolding mean over totalBy U ofRound AllWellFormed
   sorted T p n [] d f u = record { cross = omega arith; left = omega arith; right = omega (arith, mul-pos p (u elsewhere)) }
   sorted T p n (l ∷ ls) d f u = go (eqb (l .new .round) r) (sorted T p (l .number) ls (d .1))
     where
@@ -111,7 +111,7 @@ module _ (t r k : ℕ) (key : ℕ → ℕ) (own : (s : ℕ) → eqb (key s) k �
       us = ofRound r ls
 
       standing : (Initial → Fraction) → Fraction
-      standing g = sum (length (map (inRound key) us)) (λ i. sent k (liftAt (map (inRound key) us) i) // T ⊗ g (here i))
+      standing g = sum (length (map (inRound key) us)) (λ i. measureFrom k (liftAt (map (inRound key) us) i) // T ⊗ g (here i))
 
       later : (i : ℕ) → i < length ls → l .number < nth ls i .number
       later = above (l .number) ls (d .1)

@@ -9,11 +9,11 @@ use Rattle.draw.specs.Run.{Run, finished, short as ended, run}
 use Rattle.draw.proofs.Positions.{run-between}
 use Rattle.round.specs.Choice.{Selection, outcome}
 use Rattle.sheet.specs.Sheet.{Lift}
-use Rattle.selection.specs.Choice.{heldIn, planOf, liftAt, Choice, Panel, chosen, short, preceded, andThen, panelFrom}
+use Rattle.selection.specs.Choice.{heldOfRound, planOf, liftInRound, Choice, Panel, chosen, short, preceded, andThen, panelFrom}
 
 -- what a finished run of round r chooses
 abbrev pub made : ℕ → List Lift → List ℕ → Selection → Choice
-made r ls vs s = record { round = r; number = liftAt r ls (s .place) .number; outcome = outcome (heldIn r ls) s; values = vs }
+made r ls vs s = record { round = r; number = liftInRound r ls (s .place) .number; outcome = outcome (heldOfRound r ls) s; values = vs }
 
 -- the choices of some rounds, from a position to the next
 pub data Steps (ls : List Lift) (ws : List ℕ) : ℕ → List ℕ → List Choice → ℕ → Type 0 where

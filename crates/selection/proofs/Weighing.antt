@@ -7,18 +7,18 @@ use native.Mathlib.Nat.{mul-pos}
 use native.Mathlib.Omega.{arith}
 use Rattle.probability.specs.Sum.{over, indicator}
 use Rattle.probability.specs.Fraction.{Fraction, _//_, _⊗_, sumOver}
-use Rattle.probability.specs.Plan.{Plan, done, draw, Path, drew, paths, weight}
+use Rattle.probability.specs.Plan.{Plan, done, draw, Path, extendPath, paths, weight}
 use Rattle.probability.proofs.Fractions.{sumOver-ext}
 use Rattle.sheet.specs.Sheet.{Lift}
 use Rattle.tally.specs.Rounds.{inUse}
 use Rattle.sheet.specs.Lift.{Old}
-use Rattle.selection.specs.Initial.{selections, marked, odds, overSelections}
+use Rattle.selection.specs.Initial.{selections, marked, initialWeight, meanOverSelections}
 
 -- the mean of f and of g, where they agree on every marked list
 pub selections-ext : (ls : List Lift) (f g : List Lift → Fraction) → ((m : List Lift) → List·Memᴰ m (selections ls) → f (marked m ls) ≡ g (marked m ls))
-    → overSelections ls f ≡ overSelections ls g
-unfolding overSelections
-selections-ext ls f g h = sumOver-ext (selections ls) (λ m d. ap (λ x. odds (inUse Old ls) m ls ⊗ x) (h m d))
+    → meanOverSelections ls f ≡ meanOverSelections ls g
+unfolding meanOverSelections
+selections-ext ls f g h = sumOver-ext (selections ls) (λ m d. ap (λ x. initialWeight (inUse Old ls) m ls ⊗ x) (h m d))
 
 -- ---- paths
 
@@ -35,7 +35,7 @@ positive-append : {A : Type 0} (ps qs : List (Path A)) → Positive ps → Posit
 positive-append [] qs h k = k
 positive-append (p ∷ ps) qs h k = (h .0, positive-append ps qs (h .1) k)
 
-positive-drew : {A : Type 0} (b v : ℕ) → 0 < b → (ps : List (Path A)) → Positive ps → Positive (map (drew b v) ps)
+positive-drew : {A : Type 0} (b v : ℕ) → 0 < b → (ps : List (Path A)) → Positive ps → Positive (map (extendPath b v) ps)
 positive-drew b v l [] h = tt
 positive-drew b v l (p ∷ ps) h = (mul-pos l (h .0), positive-drew b v l ps (h .1))
 

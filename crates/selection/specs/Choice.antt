@@ -8,7 +8,7 @@ use lib.ListN.{length, getD, set, drop}
 use Rattle.probability.specs.Plan.{Plan}
 use Rattle.draw.specs.Draw.{largest}
 use Rattle.draw.specs.Run.{Run, finished, short as ended, run}
-use Rattle.round.specs.Rows.{lift}
+use Rattle.round.specs.Rows.{liftOfMeasures}
 use Rattle.round.specs.Choice.{Selection, plan, outcome}
 use Rattle.probability.specs.Initial.{Initial, elsewhere}
 use Rattle.round.specs.Share.{heldOf}
@@ -37,7 +37,7 @@ donorsOf r ls = withSums (λ t. sumOf Old t ls) (donors r ls)
 
 -- a lift as its new round has it: its old and new measures, and the number of its donor, by a numbering of old rounds
 abbrev pub inRound : (ℕ → ℕ) → Lift → RoundLift
-inRound number l = lift (l .old .measure) (number (l .old .round)) (placeAt New l .measure)
+inRound number l = liftOfMeasures (l .old .measure) (number (l .old .round)) (placeAt New l .measure)
 
 -- the lifts of new round r
 unfoldable pub liftsOf : ℕ → List Lift → List RoundLift
@@ -50,19 +50,19 @@ heldAmong place (d ∷ []) = heldOf (place d) elsewhere
 heldAmong place (d ∷ e ∷ ds) = heldOf (place d) (place e)
 
 -- the held lifts in new round r
-unfoldable pub heldIn : ℕ → List Lift → Held
-heldIn r ls = heldAmong (λ t. heldAt t (ofRound r ls)) (donors r ls)
+unfoldable pub heldOfRound : ℕ → List Lift → Held
+heldOfRound r ls = heldAmong (λ t. heldAt t (ofRound r ls)) (donors r ls)
 
 -- the choice of new round r: "What it chooses depends only on its own lifts, its donors' sums and held lifts, and the chance words"
 unfoldable pub planOf : ℕ → List Lift → Plan Selection
-planOf r ls = plan (donorsOf r ls) (liftsOf r ls) (heldIn r ls)
+planOf r ls = plan (donorsOf r ls) (liftsOf r ls) (heldOfRound r ls)
 
 -- the lift at a place of new round r
-abbrev pub nobody : Lift
-nobody = record { number = 0; old = record { round = 0; measure = 0 }; new = record { round = 0; measure = 0 }; held = false }
+abbrev pub noLift : Lift
+noLift = record { number = 0; old = record { round = 0; measure = 0 }; new = record { round = 0; measure = 0 }; held = false }
 
-unfoldable pub liftAt : ℕ → List Lift → ℕ → Lift
-liftAt r ls i = getD (ofRound r ls) i nobody
+unfoldable pub liftInRound : ℕ → List Lift → ℕ → Lift
+liftInRound r ls i = getD (ofRound r ls) i noLift
 
 -- ---- all rounds
 
@@ -86,7 +86,7 @@ preceded c (short r) = short r
 -- after the run of a round, the rounds behind it
 abbrev pub andThen : ℕ → List Lift → Run Selection → (ℕ → Panel) → Panel
 andThen r ls (finished vs s next) k =
-    preceded (record { round = r; number = liftAt r ls (s .place) .number; outcome = outcome (heldIn r ls) s; values = vs }) (k next)
+    preceded (record { round = r; number = liftInRound r ls (s .place) .number; outcome = outcome (heldOfRound r ls) s; values = vs }) (k next)
 andThen r ls ended k = short r
 
 -- "New rounds that some lift names are done in rising order, each reading on where the one before stopped."
@@ -138,14 +138,14 @@ abbrev pub pairOf : Choice → List ℕ
 pairOf c = pair (c .round) (c .number) (c .outcome)
 
 -- "Each round's pair is written to its own part of the output; words behind the last pair keep what they had."
-unfoldable pub written : List Choice → List ℕ → List ℕ
-written [] out = out
-written (c ∷ cs) out = pairOf c ++ written cs (drop 2 out)
+unfoldable pub writtenPairs : List Choice → List ℕ → List ℕ
+writtenPairs [] out = out
+writtenPairs (c ∷ cs) out = pairOf c ++ writtenPairs cs (drop 2 out)
 
-abbrev pub writtenOf : Panel → List ℕ → List ℕ
-writtenOf (chosen cs next) out = written cs out
-writtenOf (short r) out = out
+abbrev pub writtenPanel : Panel → List ℕ → List ℕ
+writtenPanel (chosen cs next) out = writtenPairs cs out
+writtenPanel (short r) out = out
 
 -- the output after the call
 unfoldable pub output : List ℕ → List ℕ → ℕ → List ℕ → List ℕ
-output sheet ws start out = unlessRefused (reply sheet ws start (length out)) out (writtenOf (panel (lifts sheet) ws start) out)
+output sheet ws start out = unlessRefused (reply sheet ws start (length out)) out (writtenPanel (panel (lifts sheet) ws start) out)

@@ -16,17 +16,17 @@ use Rattle.tally.specs.Rounds.{inUse, sumOf, donors, ofRound}
 use Rattle.tally.specs.Verdict.{fits, verdict}
 use Rattle.reply.specs.Reply.{replied}
 use Rattle.tally.specs.Law.{Fit}
-use Rattle.selection.specs.Choice.{donorsOf, liftsOf, heldIn, planOf, liftAt, Panel, chosen, short, panel, reply, pair, output}
-use Rattle.selection.specs.Initial.{selections, marked, overSelections}
+use Rattle.selection.specs.Choice.{donorsOf, liftsOf, heldOfRound, planOf, liftInRound, Panel, chosen, short, panel, reply, pair, output}
+use Rattle.selection.specs.Initial.{selections, marked, meanOverSelections}
 
 -- what the paths weigh together, over all initial selections, that choose the lift at place j of round r: "The way weighs the product
 -- of the held lifts' old measures over the product of all old sums, divided by the W of each of its draws."
 unfoldable pub share : List Lift → ℕ → ℕ → Fraction
-share ls r j = overSelections ls (λ ms. weight (chooses j) (paths (planOf r ms)))
+share ls r j = meanOverSelections ls (λ ms. weight (chooses j) (paths (planOf r ms)))
 
 -- "what the ways weigh whose lift is held in their own marking"
 unfoldable pub kept : List Lift → ℕ → Fraction
-kept ls r = overSelections ls (λ ms. weight (λ s. liftAt r ms (s .place) .held) (paths (planOf r ms)))
+kept ls r = meanOverSelections ls (λ ms. weight (λ s. liftInRound r ms (s .place) .held) (paths (planOf r ms)))
 
 -- the values drawn in each round, rising
 abbrev pub draws : Panel → List (List ℕ)
@@ -36,14 +36,14 @@ draws (short r) = []
 -- what is proved of lifts that fit, as those of every fitting sheet do, and of each of their new rounds
 pub record FairRound (ls : List Lift) (r : ℕ) : Type 0 where
   -- "For each lift of the round, b = 0 included, the ways that have it as their lift weigh together exactly b over S."
-  pub shares : (j : ℕ) → j < length (ofRound r ls) → share ls r j ≈ placeAt New (liftAt r ls j) .measure // sumOf New r ls
+  pub shares : (j : ℕ) → j < length (ofRound r ls) → share ls r j ≈ placeAt New (liftInRound r ls j) .measure // sumOf New r ls
   -- "the output gives it for this round whenever the sheet so marked is run, not refused, and the round's draws have those values": the
   -- pair written for this round, the i-th, has the path's lift and outcome
   pub runs : (m : List Lift) → List·Memᴰ m (selections ls) → (p : Path Selection) → List·Memᴰ p (paths (planOf r (marked m ls)))
       → (ws : List ℕ) (start : ℕ) (out : List ℕ) (n k : ℕ) → reply (sheetOf (marked m ls)) ws start (length out) ≡ replied n k
       → (i : ℕ) → getD (inUse New ls) i 0 ≡ r → getD (draws (panel (marked m ls) ws start)) i [] ≡ p .values
       → slice (2 * i) (2 * i + 2) (output (sheetOf (marked m ls)) ws start out)
-      ≡ pair r (liftAt r (marked m ls) (p .result .place) .number) (outcome (heldIn r (marked m ls)) (p .result))
+      ≡ pair r (liftInRound r (marked m ls) (p .result .place) .number) (outcome (heldOfRound r (marked m ls)) (p .result))
   -- "In a round with one donor and U = T, every rule keeps at most as many tickets as all its tickets times what the ways weigh whose
   -- lift is held in their own marking." And some rule keeps as many: the program's choice is the best there is.
   pub best : (t : ℕ) → donors r ls ≡ t ∷ [] → U 1 (liftsOf r ls) ≡ sumOf Old t ls
@@ -55,7 +55,7 @@ pub record Fair (ls : List Lift) : Type 0 where
   pub fits : (m : List Lift) → List·Memᴰ m (selections ls)
       → verdict (sheetOf (marked m ls)) ≡ fits (length ls) (length (inUse New ls))
   -- the selections weigh 1 together
-  pub whole : overSelections ls (λ _. 1 // 1) ≈ 1 // 1
+  pub whole : meanOverSelections ls (λ _. 1 // 1) ≈ 1 // 1
 
 -- proved: of all lifts that fit
 abbrev pub FairTheorem : Type 0

@@ -47,9 +47,9 @@ product [] = 1
 product (n ∷ ns) = n * product ns
 
 -- "the product of the held lifts' old measures over the product of all old sums", for the old rounds ts
-unfoldable pub odds : List ℕ → List Lift → List Lift → Fraction
-odds ts m ls = product (map (λ l. l .old .measure) m) // product (map (λ t. sumOf Old t ls) ts)
+unfoldable pub initialWeight : List ℕ → List Lift → List Lift → Fraction
+initialWeight ts m ls = product (map (λ l. l .old .measure) m) // product (map (λ t. sumOf Old t ls) ts)
 
 -- the mean over all initial selections of f of the lifts so marked
-unfoldable pub overSelections : List Lift → (List Lift → Fraction) → Fraction
-overSelections ls f = sumOver (selections ls) (λ m. odds (inUse Old ls) m ls ⊗ f (marked m ls))
+unfoldable pub meanOverSelections : List Lift → (List Lift → Fraction) → Fraction
+meanOverSelections ls f = sumOver (selections ls) (λ m. initialWeight (inUse Old ls) m ls ⊗ f (marked m ls))

@@ -10,7 +10,7 @@ use lib.ListN.{length}
 use borrow.Author.Tests.{eq-eqb, ne-eqb, lt-ltb, le-ltb, ltb-false}
 use Rattle.reply.specs.Reply.{numbered}
 use Rattle.sheet.specs.Sheet.{longest, endKind}
-use Rattle.sheet.specs.Reading.{mislong, next, fault, Reading, faulty, sound, unless, readFrom, start, reading, ofWords, Legible}
+use Rattle.sheet.specs.Reading.{mislong, nextState, fault, Reading, faulty, sound, unlessFault, readFrom, startState, reading, ofWords, Legible}
 use Rattle.sheet.specs.declared.faults.ScanState.{ScanState}
 use Rattle.sheet.proofs.Trips.{not-ended}
 
@@ -35,7 +35,7 @@ pub words-legible : {ws : List ℕ} → Legible ws → sound ≡ ofWords ws
 words-legible {ws} l = at-reading ws (some ws (l .read)) (l .short) (sym (l .read))
   where
     some : (ws : List ℕ) → reading ws ≡ sound → length ws ≡ 0 → ⊥
-    some [] e z = not-ended start 0 refl e
+    some [] e z = not-ended startState 0 refl e
     some (w ∷ ws) e z = omega arith
 
 -- no refusal has number 0: each names its own
@@ -43,7 +43,7 @@ abbrev pub AboveWord : Reading → Type 0
 AboveWord (faulty x) = 0 < x .number
 AboveWord sound = Unit {0}
 
-above-unless : (n i : ℕ) (rest : Reading) → AboveWord rest → AboveWord (unless n i rest)
+above-unless : (n i : ℕ) (rest : Reading) → AboveWord rest → AboveWord (unlessFault n i rest)
 above-unless zero i rest h = h
 above-unless (suc n) i rest h = omega arith
 
@@ -54,11 +54,11 @@ above-from s i [] = go (eqb (s .kind) endKind)
     go : (t : Bool) → AboveWord (cond t sound (faulty (numbered 2 i)))
     go true = tt
     go false = omega arith
-above-from s i (w ∷ ws) = above-unless (fault s w) i (readFrom (next s w) (i + 1) ws) (above-from (next s w) (i + 1) ws)
+above-from s i (w ∷ ws) = above-unless (fault s w) i (readFrom (nextState s w) (i + 1) ws) (above-from (nextState s w) (i + 1) ws)
 
 above-words : (t : Bool) (n : ℕ) (r : Reading) → AboveWord r → AboveWord (cond t (faulty (numbered 1 n)) r)
 above-words true n r h = omega arith
 above-words false n r h = h
 
 pub above-of-words : (ws : List ℕ) → AboveWord (ofWords ws)
-above-of-words ws = above-words (mislong ws) (length ws) (reading ws) (above-from start 0 ws)
+above-of-words ws = above-words (mislong ws) (length ws) (reading ws) (above-from startState 0 ws)

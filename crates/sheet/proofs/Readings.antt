@@ -11,7 +11,7 @@ use lib.ListN.{length, getD, drop, drop-of-length-le}
 use lib.Seq.{drop-cons}
 use borrow.Author.Tests.{le-ltb, lt-leb, eq-eqb, ne-eqb, eqb-true}
 use Rattle.sheet.specs.Sheet.{mostRounds, largestSum, notCounted, kind, payload, placeOf, liftKind, oldKind, newKind, endKind}
-use Rattle.sheet.specs.Reading.{next, follows, misnumbered, isPlace, misplaced, uncountedNewcomer, miscounted, mismarked, fault, Reading, faulty, sound, unless, readFrom, reading, readingOf}
+use Rattle.sheet.specs.Reading.{nextState, mayFollow, misnumbered, isPlace, misplaced, uncountedNewcomer, miscounted, mismarked, fault, Reading, faulty, sound, unlessFault, readFrom, reading, readingOf}
 use Rattle.reply.specs.Reply.{numbered}
 use Rattle.sheet.specs.declared.faults.ScanState.{ScanState}
 use Rattle.reply.specs.declared.Refusal.{Refusal}
@@ -23,15 +23,15 @@ abbrev andThen : Reading → Reading → Reading
 andThen (faulty x) rest = faulty x
 andThen sound rest = rest
 
--- which is what `unless` says
-unless-then : (n i : ℕ) (rest : Reading) → andThen (unless n i sound) rest ≡ unless n i rest
+-- which is what `unlessFault` says
+unless-then : (n i : ℕ) (rest : Reading) → andThen (unlessFault n i sound) rest ≡ unlessFault n i rest
 unless-then zero i rest = refl
 unless-then (suc n) i rest = refl
 
 -- ---- a word's fault
 
 -- of a word in sequence that tells a place, and of one that tells none
-module _ (s : ScanState) (w : ℕ) (f : follows (s .kind) (kind w) ≡ true) where
+module _ (s : ScanState) (w : ℕ) (f : mayFollow (s .kind) (kind w) ≡ true) where
   pub place-fault : isPlace (kind w) ≡ true → fault s w ≡ cond (misplaced w) 4 (cond (uncountedNewcomer s w) 16 0)
   unfolding fault
   place-fault h = go (eqb (kind w) oldKind) refl
@@ -74,12 +74,12 @@ module _ (k w : ℕ) (small : placeOf w .measure ≤ largestSum) where
   with-neither e = (omega arith, within (omega arith) (rw (eq-eqb (placeOf w .round) 0 (omega arith), eq-eqb (placeOf w .measure) 0 (omega arith))), small)
 
 -- words of a lift none of which is faulty
-pub sound-lift : (s : ScanState) (a b c : ℕ) → follows (s .kind) liftKind ≡ true → kind a ≡ liftKind → s .number < payload a → Counted oldKind b → Counted newKind c
-    → (fault s a ≡ 0) × (fault (next s a) b ≡ 0) × (fault (next (next s a) b) c ≡ 0)
+pub sound-lift : (s : ScanState) (a b c : ℕ) → mayFollow (s .kind) liftKind ≡ true → kind a ≡ liftKind → s .number < payload a → Counted oldKind b → Counted newKind c
+    → (fault s a ≡ 0) × (fault (nextState s a) b ≡ 0) × (fault (nextState (nextState s a) b) c ≡ 0)
 sound-lift s a b c f k n o p = (
   rw (other-fault s a (rw k f) (rw k), k, ne-eqb (payload a) 0 (omega arith), lt-leb (payload a) (s .number) n),
-  rw (place-fault (next s a) b (rw (k, o .0)) (rw (o .0)), o .1, o .0),
-  rw (place-fault (next (next s a) b) c (rw (o .0, p .0)) (rw (p .0)), p .1, p .0, ne-eqb (placeOf c .measure) notCounted (omega arith), neither),
+  rw (place-fault (nextState s a) b (rw (k, o .0)) (rw (o .0)), o .1, o .0),
+  rw (place-fault (nextState (nextState s a) b) c (rw (o .0, p .0)) (rw (p .0)), p .1, p .0, ne-eqb (placeOf c .measure) notCounted (omega arith), neither),
 )
 
 -- ---- the loop
@@ -90,7 +90,7 @@ pub record Kept (ws : List ℕ) (s : ScanState) (i : ℕ) : Type 0 where
   pub few : s .lifts ≤ i
 
 -- a word is at most one lift more
-pub one-more : (s : ScanState) (w : ℕ) {t : ScanState} {i : ℕ} → t ≡ next s w → s .lifts ≤ i → t .lifts ≤ i + 1
+pub one-more : (s : ScanState) (w : ℕ) {t : ScanState} {i : ℕ} → t ≡ nextState s w → s .lifts ≤ i → t .lifts ≤ i + 1
 one-more s w n h = rw n (more (eqb (kind w) liftKind) h)
   where
     more : (t : Bool) {n i : ℕ} → n ≤ i → cond t (n + 1) n ≤ i + 1
@@ -99,24 +99,24 @@ one-more s w n h = rw n (more (eqb (kind w) liftKind) h)
 
 module _ {ws : List ℕ} {s : ScanState} {i : ℕ} {r : Judged} where
   -- a turn whose word is judged x
-  turn : {x : Judged} → i < length ws → Kept ws s i → readingOf r ≡ unless (fault s (getD ws i 0)) i sound → r ≡ x
-      → andThen (readingOf x) (readFrom (next s (getD ws i 0)) (i + 1) (drop (i + 1) ws)) ≡ reading ws
+  turn : {x : Judged} → i < length ws → Kept ws s i → readingOf r ≡ unlessFault (fault s (getD ws i 0)) i sound → r ≡ x
+      → andThen (readingOf x) (readFrom (nextState s (getD ws i 0)) (i + 1) (drop (i + 1) ws)) ≡ reading ws
   unfolding readFrom
   turn h k j e = rw (← e, j, unless-then (fault s (getD ws i 0)) i, ← k .same, drop-cons ws i 0, add-one i)
 
-  pub stops : {x : Refusal} → i < length ws → Kept ws s i → readingOf r ≡ unless (fault s (getD ws i 0)) i sound → r ≡ Faulty x
+  pub stops : {x : Refusal} → i < length ws → Kept ws s i → readingOf r ≡ unlessFault (fault s (getD ws i 0)) i sound → r ≡ Faulty x
       → readingOf (Faulty x) ≡ reading ws
   stops h k j e = turn h k j e
 
-  pub goes-on : {t : ScanState} → i < length ws → Kept ws s i → readingOf r ≡ unless (fault s (getD ws i 0)) i sound → r ≡ Sound
-      → t ≡ next s (getD ws i 0) → Kept ws t (i + 1)
+  pub goes-on : {t : ScanState} → i < length ws → Kept ws s i → readingOf r ≡ unlessFault (fault s (getD ws i 0)) i sound → r ≡ Sound
+      → t ≡ nextState s (getD ws i 0) → Kept ws t (i + 1)
   goes-on h k j e n = record { same = rw n (turn h k j e); few = one-more s _ n (k .few) }
 
 -- three turns at once, each by a word that is not faulty
 module _ {ws : List ℕ} {s t u v : ScanState} {i : ℕ} where
   pub goes-on-three : i + 2 < length ws → Kept ws s i
-      → (fault s (getD ws i 0) ≡ 0) × (fault (next s (getD ws i 0)) (getD ws (i + 1) 0) ≡ 0) × (fault (next (next s (getD ws i 0)) (getD ws (i + 1) 0)) (getD ws (i + 2) 0) ≡ 0)
-      → t ≡ next s (getD ws i 0) → u ≡ next t (getD ws (i + 1) 0) → v ≡ next u (getD ws (i + 2) 0) → Kept ws v (i + 3)
+      → (fault s (getD ws i 0) ≡ 0) × (fault (nextState s (getD ws i 0)) (getD ws (i + 1) 0) ≡ 0) × (fault (nextState (nextState s (getD ws i 0)) (getD ws (i + 1) 0)) (getD ws (i + 2) 0) ≡ 0)
+      → t ≡ nextState s (getD ws i 0) → u ≡ nextState t (getD ws (i + 1) 0) → v ≡ nextState u (getD ws (i + 2) 0) → Kept ws v (i + 3)
   goes-on-three h k f p q r =
       let a : Kept ws t (i + 1) = goes-on {r = Sound} (omega arith) k (rw (f .0)) refl p in
       let b : Kept ws u (i + 1 + 1) = goes-on {r = Sound} (omega arith) a (rw (p, f .1)) refl q in

@@ -9,9 +9,9 @@ use native.Mathlib.Omega.{arith}
 use lib.ListN.{length, getD}
 use lib.Dec.{eqb, ltb}
 use borrow.Author.Tests.{eqb-true, eqb-false, eq-eqb, ne-eqb, leb-false, lt-leb, ltb-false, le-ltb, not-false}
-use Rattle.sheet.specs.Sheet.{mostLifts, mostRounds, largestSum, notCounted, kind, payload, liftKind, oldKind, newKind, heldKind, endKind, Place, placeOf, Lift, lifts, word, placeWord, wordsOf, written, sheetOf}
-use Rattle.sheet.specs.Reading.{start, next, follows, outOfSequence, misnumbered, isPlace, tooLarge, beyond, misplaced, uncountedNewcomer, miscounted, mismarked, fault, Reading, sound, unless, readFrom}
-use Rattle.sheet.specs.Law.{Placed, Proper, Listed, Listable, ReadTheorem, WrittenTheorem, WritablePlace, AllWritable, BackTheorem}
+use Rattle.sheet.specs.Sheet.{mostLifts, mostRounds, largestSum, notCounted, kind, payload, liftKind, oldKind, newKind, heldKind, endKind, Place, placeOf, Lift, lifts, word, placeWord, liftWords, wordsThen, sheetOf}
+use Rattle.sheet.specs.Reading.{startState, nextState, mayFollow, outOfSequence, misnumbered, isPlace, tooLarge, beyond, misplaced, uncountedNewcomer, miscounted, mismarked, fault, Reading, sound, unlessFault, readFrom}
+use Rattle.sheet.specs.Law.{PlaceWellFormed, LiftWellFormed, AllWellFormed, WellFormed, ReadBackTheorem, WrittenBackTheorem, WritablePlace, AllWritable, BackTheorem}
 use Rattle.sheet.specs.declared.faults.ScanState.{ScanState}
 
 -- what the words before tell, from its parts
@@ -24,7 +24,7 @@ marked held ws = cond held (word heldKind 0 ∷ []) [] ++ ws
 
 -- a kind behind which no lift is under way
 abbrev Free : ℕ → Type 0
-Free k = (j : ℕ) → follows k j ≡ (eqb j liftKind || eqb j endKind || eqb k newKind && eqb j heldKind)
+Free k = (j : ℕ) → mayFollow k j ≡ (eqb j liftKind || eqb j endKind || eqb k newKind && eqb j heldKind)
 
 -- ---- a word that passes
 
@@ -43,9 +43,9 @@ not-held n false h = (refl, h)
 
 -- what a word without a fault tells, by its kind
 record Passes (s : ScanState) (w : ℕ) : Type 0 where
-  order : follows (s .kind) (kind w) ≡ true
+  order : mayFollow (s .kind) (kind w) ≡ true
   number : kind w ≡ liftKind → s .number < payload w
-  place : isPlace (kind w) ≡ true → Placed (kind w) (placeOf w)
+  place : isPlace (kind w) ≡ true → PlaceWellFormed (kind w) (placeOf w)
   newcomer : kind w ≡ newKind → placeOf (s .old) .round ≡ 0 → placeOf w .measure ≡ notCounted → ⊥
   count : kind w ≡ endKind → (payload w ≡ s .lifts) × (payload w ≤ mostLifts)
   mark : kind w ≡ heldKind → (payload w ≡ 0) × (0 < placeOf (s .old) .measure)
@@ -73,14 +73,14 @@ passes s w h =
 
 -- ---- words that pass
 
-unless-sound : (n i : ℕ) (r : Reading) → unless n i r ≡ sound → (n ≡ 0) × (r ≡ sound)
+unless-sound : (n i : ℕ) (r : Reading) → unlessFault n i r ≡ sound → (n ≡ 0) × (r ≡ sound)
 unless-sound zero i r h = (refl, h)
 unless-sound (suc n) i r h = let z : _≡_ {A = ℕ} 0 1 = cc in absurd (omega arith)
 
 -- the first of words that pass does, and those behind it
-first-passes : (s : ScanState) (i w : ℕ) (ws : List ℕ) → readFrom s i (w ∷ ws) ≡ sound → Passes s w × (readFrom (next s w) (i + 1) ws ≡ sound)
+first-passes : (s : ScanState) (i w : ℕ) (ws : List ℕ) → readFrom s i (w ∷ ws) ≡ sound → Passes s w × (readFrom (nextState s w) (i + 1) ws ≡ sound)
 unfolding readFrom
-first-passes s i w ws h = let f = unless-sound (fault s w) i (readFrom (next s w) (i + 1) ws) h in (passes s w (f .0), f .1)
+first-passes s i w ws h = let f = unless-sound (fault s w) i (readFrom (nextState s w) (i + 1) ws) h in (passes s w (f .0), f .1)
 
 -- behind another word than the end there are more
 pub not-ended : (s : ScanState) (i : ℕ) → eqb (s .kind) endKind ≡ false → readFrom s i [] ≡ sound → ⊥
@@ -97,12 +97,12 @@ record Told (s : ScanState) (ws : List ℕ) : Type 0 where
   held : Bool
   mark : held ≡ true → (eqb (s .kind) newKind ≡ true) × (0 < placeOf (s .old) .measure)
   list : List Lift
-  listed : Listed (s .number) list
+  listed : AllWellFormed (s .number) list
   few : s .lifts + length list ≤ mostLifts
-  back : marked held (written list (word endKind (s .lifts + length list) ∷ [])) ≡ ws
+  back : marked held (wordsThen list (word endKind (s .lifts + length list) ∷ [])) ≡ ws
 
 -- behind another word than a new place there is no mark
-unmarked : {s : ScanState} {ws : List ℕ} (t : Told s ws) → eqb (s .kind) newKind ≡ false → written (t .list) (word endKind (s .lifts + length (t .list)) ∷ []) ≡ ws
+unmarked : {s : ScanState} {ws : List ℕ} (t : Told s ws) → eqb (s .kind) newKind ≡ false → wordsThen (t .list) (word endKind (s .lifts + length (t .list)) ∷ []) ≡ ws
 unmarked t e = rw (not-eq-not {b = false} .0 (λ h. true≢false (sym (t .mark h .0) ∙ e))) at (t .back)
 
 -- by the kind of the first word: a lift, the end or a held mark
@@ -110,7 +110,7 @@ by-kind : (s : ScanState) (i w : ℕ) (ws : List ℕ) → Free (s .kind) → rea
     → (kind w ≡ liftKind → s .number < payload w → readFrom (state liftKind (payload w) (s .old) (s .lifts + 1)) (i + 1) ws ≡ sound → Told s (w ∷ ws))
     → (readFrom (state heldKind (s .number) (s .old) (s .lifts)) (i + 1) ws ≡ sound → Told (state heldKind (s .number) (s .old) (s .lifts)) ws)
     → Told s (w ∷ ws)
-unfolding written Listed
+unfolding wordsThen AllWellFormed
 by-kind s i w ws o h lift held =
     let f = first-passes s i w ws h in
     either _ _ (sym (o (kind w)) ∙ f .0 .order)
@@ -128,11 +128,11 @@ by-kind s i w ws o h lift held =
     record { held = true; mark = λ _. (k .0, z .1); list = t .list; listed = t .listed; few = t .few; back = ap₂ _∷_ (omega (arith, z .0)) (unmarked t refl) })
 
 -- and the words of one lift more before them
-lift-told : (s : ScanState) (w v u : ℕ) (ws : List ℕ) → kind w ≡ liftKind → s .number < payload w → kind v ≡ oldKind → Placed oldKind (placeOf v) → kind u ≡ newKind
-    → Placed newKind (placeOf u) → (placeOf v .round ≡ 0 → placeOf u .measure ≡ notCounted → ⊥)
+lift-read : (s : ScanState) (w v u : ℕ) (ws : List ℕ) → kind w ≡ liftKind → s .number < payload w → kind v ≡ oldKind → PlaceWellFormed oldKind (placeOf v) → kind u ≡ newKind
+    → PlaceWellFormed newKind (placeOf u) → (placeOf v .round ≡ 0 → placeOf u .measure ≡ notCounted → ⊥)
     → Told (state newKind (payload w) v (s .lifts + 1)) ws → Told s (w ∷ v ∷ u ∷ ws)
-unfolding written Listed
-lift-told s w v u ws a l b old c new known t =
+unfolding wordsThen AllWellFormed
+lift-read s w v u ws a l b old c new known t =
     let e : s .lifts + suc (length (t .list)) ≡ s .lifts + 1 + length (t .list) = omega arith in
     record {
       held = false;
@@ -158,7 +158,7 @@ parse s i (w ∷ v ∷ u ∷ ws) o h =
     let b = eqb-true (kind v) oldKind (f .0 .order) in
     let e = first-passes _ _ u ws (rw b at (f .1)) in
     let c = eqb-true (kind u) newKind (e .0 .order) in
-    lift-told s w v u ws a l b (rw b at (f .0 .place (rw b))) c (rw c at (e .0 .place (rw c))) (e .0 .newcomer c) (parse _ _ ws (λ j. refl) (rw c at (e .1))))
+    lift-read s w v u ws a l b (rw b at (f .0 .place (rw b))) c (rw c at (e .0 .place (rw c))) (e .0 .newcomer c) (parse _ _ ws (λ j. refl) (rw c at (e .1))))
     (parse _ _ (v ∷ u ∷ ws) (λ j. refl))
 
 -- ---- the words of lifts
@@ -187,14 +187,14 @@ measure-below k m h = go (ltb largestSum m) refl h
     go true e q = omega (arith, eqb-true m notCounted (and-eq-true-iff (eqb k newKind) (eqb m notCounted) .0 (not-false _ q) .1))
     go false e q = omega (arith, ltb-false largestSum m e)
 
-pub placed-writable : {k : ℕ} {p : Place} → Placed k p → WritablePlace p
+pub placed-writable : {k : ℕ} {p : Place} → PlaceWellFormed k p → WritablePlace p
 placed-writable {k} {p} h = record { round = omega (arith, h .round); measure = measure-below k (p .measure) (h .measure) }
 
-listed-writable : (n : ℕ) (ls : List Lift) → Listed n ls → AllWritable ls
-unfolding Listed AllWritable
-listed-writable n [] h = tt
-listed-writable n (l ∷ ls) (p, q) =
-    (record { number = p .payload; old = placed-writable (p .old); new = placed-writable (p .new) }, listed-writable (l .number) ls q)
+all-writable : (n : ℕ) (ls : List Lift) → AllWellFormed n ls → AllWritable ls
+unfolding AllWellFormed AllWritable
+all-writable n [] h = tt
+all-writable n (l ∷ ls) (p, q) =
+    (record { number = p .payload; old = placed-writable (p .old); new = placed-writable (p .new) }, all-writable (l .number) ls q)
 
 -- b is not so where a number is n
 and-false : (m n : ℕ) (b : Bool) → (m ≡ n → b ≡ false) → (eqb m n && b) ≡ false
@@ -204,7 +204,7 @@ and-false m n b h = go (eqb m n) refl
     go true e = h (eqb-true m n e)
     go false e = refl
 
-not-beyond : (k : ℕ) (p : Place) → Placed k p → beyond k (p .round) (p .measure) ≡ false
+not-beyond : (k : ℕ) (p : Place) → PlaceWellFormed k p → beyond k (p .round) (p .measure) ≡ false
 not-beyond k p h = rw (le-ltb mostRounds (p .round) (h .round), h .measure) (and-false (p .round) 0 _ (λ e. ap not (eq-eqb _ _ (h .nowhere e))))
 
 -- a held mark passes if what follows does
@@ -215,8 +215,8 @@ mark-passes n o c i ws true m r = let l = m refl in rw (ne-eqb (placeOf o .measu
 mark-passes n o c i ws false m r = r newKind i (λ j. refl)
 
 -- a lift passes if what follows does
-lift-passes : (s : ScanState) (i : ℕ) (ws : List ℕ) (l : Lift) → Free (s .kind) → Proper (s .number) l
-    → ((k j : ℕ) → Free k → readFrom (state k (l .number) (placeWord oldKind (l .old)) (s .lifts + 1)) j ws ≡ sound) → readFrom s i (wordsOf l ++ ws) ≡ sound
+lift-passes : (s : ScanState) (i : ℕ) (ws : List ℕ) (l : Lift) → Free (s .kind) → LiftWellFormed (s .number) l
+    → ((k j : ℕ) → Free k → readFrom (state k (l .number) (placeWord oldKind (l .old)) (s .lifts + 1)) j ws ≡ sound) → readFrom s i (liftWords l ++ ws) ≡ sound
 unfolding readFrom fault
 lift-passes s i ws l o p r =
     let u = placed-writable (p .old) in
@@ -228,9 +228,9 @@ lift-passes s i ws l o p r =
     (mark-passes _ _ _ _ ws (l .held) (λ h. rw (measure-place oldKind (l .old) u) (p .held h)) r))))
 
 -- lifts pass, with an end word that counts them
-lifts-pass : (s : ScanState) (i e : ℕ) (ls : List Lift) → Free (s .kind) → Listed (s .number) ls → e ≡ s .lifts + length ls → e ≤ mostLifts
-    → readFrom s i (written ls (word endKind e ∷ [])) ≡ sound
-unfolding readFrom fault written Listed
+lifts-pass : (s : ScanState) (i e : ℕ) (ls : List Lift) → Free (s .kind) → AllWellFormed (s .number) ls → e ≡ s .lifts + length ls → e ≤ mostLifts
+    → readFrom s i (wordsThen ls (word endKind e ∷ [])) ≡ sound
+unfolding readFrom fault wordsThen AllWellFormed
 lifts-pass s i e [] o p c f = rw (kind-word endKind e (omega arith), payload-word endKind e (omega arith), o endKind, eq-eqb e (s .lifts) (omega arith), le-ltb mostLifts e f)
 lifts-pass s i e (l ∷ ls) o p c f = lift-passes s i _ l o (p .0) (λ k j o. lifts-pass _ j e ls o (p .1) (omega arith) f)
 
@@ -243,12 +243,12 @@ mark-back false ws h = (h, refl)
 
 -- the words of lifts begin with no held mark, and the lifts are read back
 lifts-back : (e : ℕ) (ls : List Lift) → e < 2 ^ 28 → AllWritable ls
-    → (eqb (kind (getD (written ls (word endKind e ∷ [])) 0 0)) heldKind ≡ false) × (lifts (written ls (word endKind e ∷ [])) ≡ ls)
-unfolding lifts written AllWritable
+    → (eqb (kind (getD (wordsThen ls (word endKind e ∷ [])) 0 0)) heldKind ≡ false) × (lifts (wordsThen ls (word endKind e ∷ [])) ≡ ls)
+unfolding lifts wordsThen AllWritable
 lifts-back e [] f p = (rw (kind-word endKind e f), rw (kind-word endKind e f))
 lifts-back e (l ∷ ls) f (p, q) =
     let r = lifts-back e ls f q in
-    let m = mark-back (l .held) (written ls (word endKind e ∷ [])) (r .0) in (
+    let m = mark-back (l .held) (wordsThen ls (word endKind e ∷ [])) (r .0) in (
       rw (kind-word liftKind (l .number) (p .number)),
       rw (kind-word liftKind (l .number) (p .number), kind-place oldKind (l .old) (p .old), kind-place newKind (l .new) (p .new))
           (rw (payload-word liftKind (l .number) (p .number), round-place oldKind (l .old) (p .old), measure-place oldKind (l .old) (p .old))
@@ -258,24 +258,24 @@ lifts-back e (l ∷ ls) f (p, q) =
 pub back-theorem : BackTheorem
 back-theorem ls h f = lifts-back (length ls) ls f h .1
 
-pub written-theorem : WrittenTheorem
+pub written-theorem : WrittenBackTheorem
 written-theorem ls h =
     record {
-      sound = lifts-pass start 0 (length ls) ls (λ j. refl) (h .listed) (omega arith) (h .few);
-      back = back-theorem ls (listed-writable 0 ls (h .listed)) (omega (arith, h .few));
+      sound = lifts-pass startState 0 (length ls) ls (λ j. refl) (h .listed) (omega arith) (h .few);
+      back = back-theorem ls (all-writable 0 ls (h .listed)) (omega (arith, h .few));
     }
 
-pub read-theorem : ReadTheorem
-read-theorem ws h = rw (← back) (record { back = ap sheetOf again; listable = rw again listable })
+pub read-theorem : ReadBackTheorem
+read-theorem ws h = rw (← back) (record { back = ap sheetOf again; wellFormed = rw again wellFormed })
   where
-    t : Told start ws
-    t = parse start 0 ws (λ j. refl) h
+    t : Told startState ws
+    t = parse startState 0 ws (λ j. refl) h
 
-    listable : Listable (t .list)
-    listable = record { listed = t .listed; few = omega (arith, t .few) }
+    wellFormed : WellFormed (t .list)
+    wellFormed = record { listed = t .listed; few = omega (arith, t .few) }
 
     again : lifts (sheetOf (t .list)) ≡ t .list
-    again = written-theorem (t .list) listable .back
+    again = written-theorem (t .list) wellFormed .back
 
     back : sheetOf (t .list) ≡ ws
     back = rw (zero-add (length (t .list))) at (unmarked t refl)

@@ -9,11 +9,11 @@ use lib.ListN.{length, getD, drop, length-append, length-drop}
 use lib.Seq.{drop-drop, getD-append-add}
 use Rattle.probability.specs.Sum.{indicator}
 use Rattle.probability.proofs.Sums.{indicator-le}
-use Rattle.sheet.specs.Sheet.{mostRounds, kind, payload, liftKind, oldKind, newKind, heldKind, endKind, Lift, liftOf, lifts, word, placeWord, wordsOf, written}
+use Rattle.sheet.specs.Sheet.{mostRounds, kind, payload, liftKind, oldKind, newKind, heldKind, endKind, Lift, liftOf, lifts, word, placeWord, liftWords, wordsThen}
 use Rattle.sheet.specs.Reading.{Legible}
-use Rattle.sheet.specs.Lift.{Marked, entryOf}
+use Rattle.sheet.specs.Lift.{MarkSound, entryOf}
 use Rattle.sheet.specs.declared.lifts.Entry.{Entry}
-use Rattle.sheet.specs.Law.{Placed, Proper, Listed}
+use Rattle.sheet.specs.Law.{PlaceWellFormed, LiftWellFormed, AllWellFormed}
 use Rattle.sheet.proofs.Trips.{kind-word, payload-word, kind-place, placed-writable, read-theorem}
 
 -- the words of the end of a sheet of n lifts
@@ -23,14 +23,14 @@ end n = word endKind n ∷ []
 -- position i stands between lifts
 pub record Between (ws : List ℕ) (i : ℕ) : Type 0 where
   pub before : ℕ
-  pub listed : Listed before (lifts (drop i ws))
+  pub listed : AllWellFormed before (lifts (drop i ws))
   pub few : length (lifts ws) < 2 ^ 28
-  pub back : written (lifts (drop i ws)) (end (length (lifts ws))) ≡ drop i ws
+  pub back : wordsThen (lifts (drop i ws)) (end (length (lifts ws))) ≡ drop i ws
 
 pub between-none : {ws : List ℕ} → Legible ws → Between ws 0
 between-none {ws} l =
     let r = read-theorem ws (l .read) in
-    record { before = 0; listed = r .listable .listed; few = omega (arith, r .listable .few); back = r .back }
+    record { before = 0; listed = r .wellFormed .listed; few = omega (arith, r .wellFormed .few); back = r .back }
 
 -- where the lift at position i ends
 abbrev pub behind : List ℕ → ℕ → ℕ
@@ -39,9 +39,9 @@ behind ws i = i + (3 + indicator (liftOf (drop i ws) .held))
 -- what holds at a lift
 pub record Turn (ws : List ℕ) (i : ℕ) : Type 0 where
   pub room : i + 3 < length ws
-  pub marked : Marked (drop i ws)
-  pub old : Placed oldKind (liftOf (drop i ws) .old)
-  pub new : Placed newKind (liftOf (drop i ws) .new)
+  pub marked : MarkSound (drop i ws)
+  pub old : PlaceWellFormed oldKind (liftOf (drop i ws) .old)
+  pub new : PlaceWellFormed newKind (liftOf (drop i ws) .new)
   pub here : lifts (drop i ws) ≡ liftOf (drop i ws) ∷ lifts (drop (behind ws i) ws)
   pub next : Between ws (behind ws i)
 
@@ -67,17 +67,17 @@ unfolding lifts
 lifts-other w e h ws = ap (λ t. cond t (liftOf (w ∷ ws) ∷ lifts ws) (lifts ws)) (ap (λ k. eqb k liftKind) e ∙ h)
 
 -- a lift's words are read as one lift, and passed over as one
-lifts-one : {n : ℕ} (l : Lift) → Proper n l → (ws : List ℕ) → lifts (wordsOf l ++ ws) ≡ liftOf (wordsOf l ++ ws) ∷ lifts ws
+lifts-one : {n : ℕ} (l : Lift) → LiftWellFormed n l → (ws : List ℕ) → lifts (liftWords l ++ ws) ≡ liftOf (liftWords l ++ ws) ∷ lifts ws
 lifts-one l p ws =
     lifts-lift _ (kind-word liftKind (l .number) (p .payload)) _
-    ∙ ap (λ ls. liftOf (wordsOf l ++ ws) ∷ ls)
+    ∙ ap (λ ls. liftOf (liftWords l ++ ws) ∷ ls)
     (lifts-other _ (kind-place oldKind (l .old) (placed-writable (p .old))) refl _ ∙ lifts-other _ (kind-place newKind (l .new) (placed-writable (p .new))) refl _ ∙ mark (l .held))
   where
     mark : (t : Bool) → lifts (cond t (word heldKind 0 ∷ []) [] ++ ws) ≡ lifts ws
     mark true = lifts-other (word heldKind 0) refl refl ws
     mark false = refl
 
-drop-one : (l : Lift) (ws : List ℕ) → drop (3 + indicator (l .held)) (wordsOf l ++ ws) ≡ ws
+drop-one : (l : Lift) (ws : List ℕ) → drop (3 + indicator (l .held)) (liftWords l ++ ws) ≡ ws
 drop-one l ws = go (l .held)
   where
     go : (t : Bool)
@@ -86,8 +86,8 @@ drop-one l ws = go (l .held)
     go false = refl
 
 -- a sheet's words reach behind the last lift
-written-long : (ls : List Lift) (n : ℕ) → 0 < length (written ls (end n))
-unfolding written
+written-long : (ls : List Lift) (n : ℕ) → 0 < length (wordsThen ls (end n))
+unfolding wordsThen
 written-long [] n = omega arith
 written-long (l ∷ ls) n = omega arith
 
@@ -96,36 +96,36 @@ long true ws = omega arith
 long false ws = omega arith
 
 -- the word behind a lift's places is the held word, the next lift's first or the end word
-marked-words : (l : Lift) (ls : List Lift) (n : ℕ) → Listed (l .number) ls → n < 2 ^ 28 → Marked (wordsOf l ++ written ls (end n))
-unfolding written Listed
+marked-words : (l : Lift) (ls : List Lift) (n : ℕ) → AllWellFormed (l .number) ls → n < 2 ^ 28 → MarkSound (liftWords l ++ wordsThen ls (end n))
+unfolding wordsThen AllWellFormed
 marked-words l ls n d h = go (l .held) ls d
   where
-    go : (t : Bool) (ls : List Lift) → Listed (l .number) ls
-        → Marked (word liftKind (l .number) ∷ placeWord oldKind (l .old) ∷ placeWord newKind (l .new) ∷ cond t (word heldKind 0 ∷ []) [] ++ written ls (end n))
+    go : (t : Bool) (ls : List Lift) → AllWellFormed (l .number) ls
+        → MarkSound (word liftKind (l .number) ∷ placeWord oldKind (l .old) ∷ placeWord newKind (l .new) ∷ cond t (word heldKind 0 ∷ []) [] ++ wordsThen ls (end n))
     go true ls d k = refl
     go false [] d k = absurd (omega (arith, k, kind-word endKind n h))
     go false (m ∷ ms) d k = absurd (omega (arith, k, kind-word liftKind (m .number) (d .0 .payload)))
 
 module _ {ws : List ℕ} {i : ℕ} (b : Between ws i) where
   -- the words left, where the lifts left are known
-  left : (ls : List Lift) → lifts (drop i ws) ≡ ls → drop i ws ≡ written ls (end (length (lifts ws)))
+  left : (ls : List Lift) → lifts (drop i ws) ≡ ls → drop i ws ≡ wordsThen ls (end (length (lifts ws)))
   left ls e = rw (← e) (sym (b .back))
 
   left-none : lifts (drop i ws) ≡ [] → length ws - i ≡ 1
-  unfolding written
+  unfolding wordsThen
   left-none e = sym (length-drop i ws) ∙ ap length (left [] e)
 
   left-some : (l : Lift) (ls : List Lift) → lifts (drop i ws) ≡ l ∷ ls → 3 < length ws - i
-  unfolding written
+  unfolding wordsThen
   left-some l ls e =
-      omega (arith, length-drop i ws, ap length (left (l ∷ ls) e), long (l .held) (written ls (end (length (lifts ws)))), written-long ls (length (lifts ws)))
+      omega (arith, length-drop i ws, ap length (left (l ∷ ls) e), long (l .held) (wordsThen ls (end (length (lifts ws)))), written-long ls (length (lifts ws)))
 
   turn-of : (l : Lift) (ls : List Lift) → lifts (drop i ws) ≡ l ∷ ls → Turn ws i
-  unfolding written Listed
+  unfolding wordsThen AllWellFormed
   turn-of l ls e =
-      let p : Proper (b .before) l = (rw e at (b .listed)) .0 in
-      let rest : List ℕ = written ls (end (length (lifts ws))) in
-      let q : drop i ws ≡ wordsOf l ++ rest = left (l ∷ ls) e in
+      let p : LiftWellFormed (b .before) l = (rw e at (b .listed)) .0 in
+      let rest : List ℕ = wordsThen ls (end (length (lifts ws))) in
+      let q : drop i ws ≡ liftWords l ++ rest = left (l ∷ ls) e in
       let o : lifts (drop i ws) ≡ liftOf (drop i ws) ∷ lifts rest = rw q (lifts-one l p rest) in
       let s : liftOf (drop i ws) ≡ l = cc in
       let t : lifts rest ≡ ls = cc in
@@ -134,8 +134,8 @@ module _ {ws : List ℕ} {i : ℕ} (b : Between ws i) where
       record {
         room = omega (arith, left-some l ls e);
         marked = rw q (marked-words l ls (length (lifts ws)) ((rw e at (b .listed)) .1) (b .few));
-        old = subst (Placed oldKind) (sym (ap (λ x. x .old) s)) (p .old);
-        new = subst (Placed newKind) (sym (ap (λ x. x .new) s)) (p .new);
+        old = subst (PlaceWellFormed oldKind) (sym (ap (λ x. x .old) s)) (p .old);
+        new = subst (PlaceWellFormed newKind) (sym (ap (λ x. x .new) s)) (p .new);
         here = rw d o;
         next = record { before = l .number; listed = rw (d, t) ((rw e at (b .listed)) .1); few = b .few; back = rw (d, t) refl };
       }
@@ -171,14 +171,14 @@ getD-last xs ys h =
     let e : length (xs ++ ys) - 1 ≡ length xs + (length ys - 1) = omega (arith, length-append xs ys) in
     rw e (getD-append-add xs ys (length ys - 1) 0)
 
-written-last : (ls : List Lift) (n : ℕ) → getD (written ls (end n)) (length (written ls (end n)) - 1) 0 ≡ word endKind n
-unfolding written
+written-last : (ls : List Lift) (n : ℕ) → getD (wordsThen ls (end n)) (length (wordsThen ls (end n)) - 1) 0 ≡ word endKind n
+unfolding wordsThen
 written-last [] n = refl
-written-last (l ∷ ls) n = getD-last (wordsOf l) (written ls (end n)) (written-long ls n) ∙ written-last ls n
+written-last (l ∷ ls) n = getD-last (liftWords l) (wordsThen ls (end n)) (written-long ls n) ∙ written-last ls n
 
 -- the end word counts the lifts
 pub end-counts : {ws : List ℕ} → Legible ws → payload (getD ws (length ws - 1) 0) ≡ length (lifts ws)
 end-counts {ws} l =
     let r = read-theorem ws (l .read) in
     let n = length (lifts ws) in
-    ap (λ us. payload (getD us (length us - 1) 0)) (sym (r .back)) ∙ ap payload (written-last (lifts ws) n) ∙ payload-word endKind n (omega (arith, r .listable .few))
+    ap (λ us. payload (getD us (length us - 1) 0)) (sym (r .back)) ∙ ap payload (written-last (lifts ws) n) ∙ payload-word endKind n (omega (arith, r .wellFormed .few))

@@ -8,45 +8,45 @@ use Rattle.sheet.specs.Sheet.{mostLifts, mostRounds, notCounted, oldKind
 use Rattle.sheet.specs.Reading.{tooLarge, reading, sound}
 
 -- a place that a word of kind k can tell
-pub record Placed (k : ℕ) (p : Place) : Type 0 where
+pub record PlaceWellFormed (k : ℕ) (p : Place) : Type 0 where
   pub round : p .round ≤ mostRounds
   pub measure : tooLarge k (p .measure) ≡ false
   pub nowhere : p .round ≡ 0 → p .measure ≡ 0
 
 -- a lift that a sheet can tell behind one of number n
-pub record Proper (n : ℕ) (l : Lift) : Type 0 where
+pub record LiftWellFormed (n : ℕ) (l : Lift) : Type 0 where
   pub rises : n < l .number
   pub payload : l .number < 2 ^ 28
-  pub old : Placed oldKind (l .old)
-  pub new : Placed newKind (l .new)
+  pub old : PlaceWellFormed oldKind (l .old)
+  pub new : PlaceWellFormed newKind (l .new)
   pub newcomer : l .old .round ≡ 0 → l .new .measure ≡ notCounted → ⊥
   pub held : l .held ≡ true → 0 < l .old .measure
 
 -- lifts that a sheet can tell behind one of number n: "Lift numbers rise."
-unfoldable pub Listed : ℕ → List Lift → Type 0
-Listed n [] = Unit {0}
-Listed n (l ∷ ls) = Proper n l × Listed (l .number) ls
+unfoldable pub AllWellFormed : ℕ → List Lift → Type 0
+AllWellFormed n [] = Unit {0}
+AllWellFormed n (l ∷ ls) = LiftWellFormed n l × AllWellFormed (l .number) ls
 
 -- lifts that a sheet can tell
-pub record Listable (ls : List Lift) : Type 0 where
-  pub listed : Listed 0 ls
+pub record WellFormed (ls : List Lift) : Type 0 where
+  pub listed : AllWellFormed 0 ls
   pub few : length ls ≤ mostLifts
 
 -- a sheet without a faulty word is the words of its own lifts
-pub record Read (ws : List ℕ) : Type 0 where
+pub record ReadBack (ws : List ℕ) : Type 0 where
   pub back : sheetOf (lifts ws) ≡ ws
-  pub listable : Listable (lifts ws)
+  pub wellFormed : WellFormed (lifts ws)
 
-abbrev pub ReadTheorem : Type 0
-ReadTheorem = (ws : List ℕ) → reading ws ≡ sound → Read ws
+abbrev pub ReadBackTheorem : Type 0
+ReadBackTheorem = (ws : List ℕ) → reading ws ≡ sound → ReadBack ws
 
 -- the words of such lifts have no fault, and reading them gives the lifts
-pub record Written (ls : List Lift) : Type 0 where
+pub record WrittenBack (ls : List Lift) : Type 0 where
   pub sound : reading (sheetOf ls) ≡ sound
   pub back : lifts (sheetOf ls) ≡ ls
 
-abbrev pub WrittenTheorem : Type 0
-WrittenTheorem = (ls : List Lift) → Listable ls → Written ls
+abbrev pub WrittenBackTheorem : Type 0
+WrittenBackTheorem = (ls : List Lift) → WellFormed ls → WrittenBack ls
 
 -- a place, and a lift, whose numbers have room in their words: "upper 7 bits .., lower 21 bits", "the low 28"
 pub record WritablePlace (p : Place) : Type 0 where

@@ -23,8 +23,8 @@ placeAt Old l = l .old
 placeAt New l = record { round = l .new .round; measure = filledIn (l .old .measure) (l .new .measure) }
 
 -- the word behind a lift's places, if it is of kind 4, is the held word: so it is in a legible sheet
-abbrev pub Marked : List ℕ → Type 0
-Marked ws = kind (getD ws 3 0) ≡ heldKind → getD ws 3 0 ≡ word heldKind 0
+abbrev pub MarkSound : List ℕ → Type 0
+MarkSound ws = kind (getD ws 3 0) ≡ heldKind → getD ws 3 0 ≡ word heldKind 0
 
 -- a lift as the code reads it
 abbrev pub entryOf : Lift → Entry

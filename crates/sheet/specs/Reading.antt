@@ -20,12 +20,12 @@ mislong ws = eqb (length ws) 0 || ltb longest (length ws)
 -- ---- what the words before a word tell
 
 -- what the words before the first one tell: no kind, no lift
-abbrev pub start : ScanState
-start = record { kind = 0; number = 0; old = 0; lifts = 0 }
+abbrev pub startState : ScanState
+startState = record { kind = 0; number = 0; old = 0; lifts = 0 }
 
 -- what a word adds: its kind, a lift's number, the word of a lift's old place, one lift more
-abbrev pub next : ScanState → ℕ → ScanState
-next s w =
+abbrev pub nextState : ScanState → ℕ → ScanState
+nextState s w =
     record {
       kind = kind w;
       number = cond (eqb (kind w) liftKind) (payload w) (s .number);
@@ -34,8 +34,8 @@ next s w =
     }
 
 -- which kind may follow which: "For each lift: kinds 1, 2, 3, then 4 if held. After the last lift: one end word and nothing more."
-abbrev pub follows : ℕ → ℕ → Bool
-follows before k =
+abbrev pub mayFollow : ℕ → ℕ → Bool
+mayFollow before k =
     cond (eqb before liftKind) (eqb k oldKind)
     (cond (eqb before oldKind) (eqb k newKind)
     (cond (eqb before endKind) false
@@ -45,7 +45,7 @@ follows before k =
 
 -- "2. A kind out of sequence, a word after the end"
 abbrev pub outOfSequence : ScanState → ℕ → Bool
-outOfSequence s w = not (follows (s .kind) (kind w))
+outOfSequence s w = not (mayFollow (s .kind) (kind w))
 
 -- "3. Lift number 0 or not above the one before."
 abbrev pub misnumbered : ScanState → ℕ → Bool
@@ -99,17 +99,17 @@ pub data Reading : Type 0 where
   sound : Reading
 
 -- at word i: a fault ends the reading, else it goes on
-abbrev pub unless : ℕ → ℕ → Reading → Reading
-unless zero i rest = rest
-unless (suc n) i rest = faulty (numbered (suc n) i)
+abbrev pub unlessFault : ℕ → ℕ → Reading → Reading
+unlessFault zero i rest = rest
+unlessFault (suc n) i rest = faulty (numbered (suc n) i)
 
 -- the reading of the words from position i on; "or no end (place: the length)"
 unfoldable pub readFrom : ScanState → ℕ → List ℕ → Reading
 readFrom s i [] = cond (eqb (s .kind) endKind) sound (faulty (numbered 2 i))
-readFrom s i (w ∷ ws) = unless (fault s w) i (readFrom (next s w) (i + 1) ws)
+readFrom s i (w ∷ ws) = unlessFault (fault s w) i (readFrom (nextState s w) (i + 1) ws)
 
 abbrev pub reading : List ℕ → Reading
-reading ws = readFrom start 0 ws
+reading ws = readFrom startState 0 ws
 
 -- refusals 1 to 6 and 16: "Order: 1; then the words one by one, the first faulty word deciding"; of 1, "Place: the length."
 abbrev pub ofWords : List ℕ → Reading

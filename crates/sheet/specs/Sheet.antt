@@ -95,14 +95,14 @@ abbrev pub placeWord : ℕ → Place → ℕ
 placeWord k p = word k (p .round * 2 ^ 21 + p .measure)
 
 -- the words of a lift
-abbrev pub wordsOf : Lift → List ℕ
-wordsOf l = word liftKind (l .number) ∷ placeWord oldKind (l .old) ∷ placeWord newKind (l .new) ∷ cond (l .held) (word heldKind 0 ∷ []) []
+abbrev pub liftWords : Lift → List ℕ
+liftWords l = word liftKind (l .number) ∷ placeWord oldKind (l .old) ∷ placeWord newKind (l .new) ∷ cond (l .held) (word heldKind 0 ∷ []) []
 
 -- the words of lifts, and those that follow
-unfoldable pub written : List Lift → List ℕ → List ℕ
-written [] ws = ws
-written (l ∷ ls) ws = wordsOf l ++ written ls ws
+unfoldable pub wordsThen : List Lift → List ℕ → List ℕ
+wordsThen [] ws = ws
+wordsThen (l ∷ ls) ws = liftWords l ++ wordsThen ls ws
 
 -- the sheet of a list of lifts: "After the last lift: one end word and nothing more."
 abbrev pub sheetOf : List Lift → List ℕ
-sheetOf ls = written ls (word endKind (length ls) ∷ [])
+sheetOf ls = wordsThen ls (word endKind (length ls) ∷ [])

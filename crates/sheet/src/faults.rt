@@ -3,7 +3,7 @@ ghost use mathlib.Core.Path.{_≡_};
 ghost use mathlib.Core.Bool.{cond};
 ghost use Prim.Native.Nat.{_≤_};
 ghost use Rattle.sheet.specs.Sheet.{longest};
-ghost use Rattle.sheet.specs.Reading.{next as nextOf, follows as followsOf, misnumbered as misnumberedOf, isPlace, tooLarge as tooLargeOf, beyond as beyondOf, misplaced as misplacedOf, uncountedNewcomer as uncountedNewcomerOf, miscounted as miscountedOf, mismarked as mismarkedOf, fault, unless, sound, readingOf};
+ghost use Rattle.sheet.specs.Reading.{nextState as nextOf, mayFollow as followsOf, misnumbered as misnumberedOf, isPlace, tooLarge as tooLargeOf, beyond as beyondOf, misplaced as misplacedOf, uncountedNewcomer as uncountedNewcomerOf, miscounted as miscountedOf, mismarked as mismarkedOf, fault, unlessFault, sound, readingOf};
 use crate::Judged;
 use crate::Sheet;
 use reply::Refusal;
@@ -101,7 +101,7 @@ fn mismarked(s: ScanState, word: u32) -> bool
 
 // The refusal that a word at position i meets, if it is one of places.
 fn judge_place(s: ScanState, word: u32, i: usize) -> Judged
-    ensures { λ r. ⌜ readingOf r ≡ unless (cond (misplacedOf word) 4 (cond (uncountedNewcomerOf s word) 16 0)) i sound ⌝ }
+    ensures { λ r. ⌜ readingOf r ≡ unlessFault (cond (misplacedOf word) 4 (cond (uncountedNewcomerOf s word) 16 0)) i sound ⌝ }
 {
     if misplaced(word) {
         return Judged::Faulty(Refusal::Place(i));
@@ -114,7 +114,7 @@ fn judge_place(s: ScanState, word: u32, i: usize) -> Judged
 
 // The refusal that a word at position i meets; a place meets no others than those of places.
 pub fn judge(s: ScanState, word: u32, i: usize) -> Judged
-    ensures { λ r. ⌜ readingOf r ≡ unless (fault s word) i sound ⌝ }
+    ensures { λ r. ⌜ readingOf r ≡ unlessFault (fault s word) i sound ⌝ }
 {
     let kind = Sheet::kind(word);
     if !follows(s.kind, kind) {

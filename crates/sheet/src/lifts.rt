@@ -5,7 +5,7 @@ ghost use lib.ListN.{length, drop};
 ghost use Rattle.probability.specs.Sum.{indicator};
 ghost use Rattle.sheet.specs.Sheet.{liftOf, lifts};
 ghost use Rattle.sheet.specs.Reading.{Legible};
-ghost use Rattle.sheet.specs.Lift.{filledIn as filledInOf, Marked, entryOf};
+ghost use Rattle.sheet.specs.Lift.{filledIn as filledInOf, MarkSound, entryOf};
 use crate::Sheet;
 
 // A lift as its words tell it: its number, old round and measure, new round and the new measure that counts, and whether it is held.
@@ -31,7 +31,7 @@ fn filled_in(old: u64, new: u64) -> u64
 // The lift at position i.
 pub fn entry_at(sheet: &[u32], i: usize) -> Entry
     requires { ⌜ i + 3 < length (now sheet) ⌝ }
-    requires { ⌜ Marked (drop i (now sheet)) ⌝ }
+    requires { ⌜ MarkSound (drop i (now sheet)) ⌝ }
     ensures { λ r. ⌜ r ≡ entryOf (liftOf (drop i (now (sheet .entry)))) ⌝ }
 {
     let old = sheet[i + 1];

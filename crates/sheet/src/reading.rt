@@ -4,7 +4,7 @@ ghost use mathlib.Core.Bool.{true, false};
 ghost use Prim.Native.Nat.{_≤_, _<_};
 ghost use lib.ListN.{length};
 ghost use Rattle.sheet.specs.Sheet.{largestSum, longest, kind as kindOf, placeOf};
-ghost use Rattle.sheet.specs.Reading.{next as nextOf, misplaced as misplacedOf, fault, reading, ofWords, readingOf};
+ghost use Rattle.sheet.specs.Reading.{nextState as nextOf, misplaced as misplacedOf, fault, reading, ofWords, readingOf};
 use crate::Judged;
 use crate::Sheet;
 use crate::faults::ScanState;

@@ -1,6 +1,6 @@
 pub mod Tables
 pub mod Bits
-pub mod Those
+pub mod Ranges
 pub mod Searches
 pub mod Filling
 pub mod Sending

@@ -10,11 +10,11 @@ use lib.ListN.{length, getD}
 use Rattle.sheet.specs.Sheet.{mostRounds, longest, Lift, lifts, sheetOf}
 use Rattle.reply.specs.Reply.{Numbered, numbered}
 use Rattle.sheet.specs.Reading.{Reading, faulty, sound, ofWords, Legible}
-use Rattle.tally.specs.Rounds.{rounds, named, inUse, donors}
-use Rattle.tally.specs.Verdict.{Verdict, refused, fits, breaks, unheld, oversize, unmeasured, crowded, firstRound, ofRounds, unlessFaulty, verdict, verdictOf}
+use Rattle.tally.specs.Rounds.{rounds, liftCount, inUse, donors}
+use Rattle.tally.specs.Verdict.{Verdict, refused, fits, breaks, notOneHeld, oversize, zeroSum, tooManyDonors, firstRound, ofRounds, unlessFaulty, verdict, verdictOf}
 use Rattle.reply.specs.Refusal.{refusalOf}
-use Rattle.tally.specs.Tables.{table, donorsOf, donorCounts, first}
-use Rattle.tally.specs.Law.{Fit, Fitting, DecidedTheorem, Answered}
+use Rattle.tally.specs.Tables.{table, donorBits, donorCounts, foundFirst}
+use Rattle.tally.specs.Law.{Fit, Fitting, DecidedTheorem, VerdictAndTables}
 use Rattle.sheet.specs.Lift.{Old, New}
 use Rattle.tally.specs.declared.Rule.{Rule}
 use Rattle.reply.specs.declared.Refusal.{Refusal}
@@ -27,7 +27,7 @@ use Rattle.tally.proofs.Sending.{low-word, high-word, donors-count}
 use Rattle.tally.proofs.Numbers.{Above, above}
 use Rattle.sheet.proofs.Trips.{read-theorem, written-theorem}
 use Rattle.sheet.proofs.Legibility.{legible-words, words-legible}
-use Rattle.tally.proofs.Those.{those-ext, those-none, none-those}
+use Rattle.tally.proofs.Ranges.{filter-ext, filter-none, none-filtered}
 
 -- ---- the tests on tables
 
@@ -35,19 +35,19 @@ use Rattle.tally.proofs.Those.{those-ext, those-none, none-those}
 tested : (test : ℕ → ℕ → Bool) (f g : ℕ → ℕ) {a b : List ℕ} → a ≡ table f → b ≡ table g
     → rounds (λ t. test (getD a t 0) (getD b t 0)) ≡ rounds (λ t. test (f t) (g t))
 tested test f g ea eb =
-    those-ext 1 mostRounds
+    filter-ext 1 mostRounds
     (λ t l h. ap₂ test (ap (λ x. getD x t 0) ea ∙ getD-tabulate (mostRounds + 1) f t h) (ap (λ x. getD x t 0) eb ∙ getD-tabulate (mostRounds + 1) g t h))
 
 -- what the code's search finds is the first round that breaks a rule
-pub found : (rule : Rule) (f g : ℕ → ℕ) {a b : List ℕ} {x : Found} → a ≡ table f → b ≡ table g → x ≡ first (rounds (λ t. breaks rule (getD a t 0) (getD b t 0)))
-    → x ≡ first (rounds (λ t. breaks rule (f t) (g t)))
-found rule f g ea eb e = e ∙ ap first (tested (breaks rule) f g ea eb)
+pub found : (rule : Rule) (f g : ℕ → ℕ) {a b : List ℕ} {x : Found} → a ≡ table f → b ≡ table g → x ≡ foundFirst (rounds (λ t. breaks rule (getD a t 0) (getD b t 0)))
+    → x ≡ foundFirst (rounds (λ t. breaks rule (f t) (g t)))
+found rule f g ea eb e = e ∙ ap foundFirst (tested (breaks rule) f g ea eb)
 
-pub in-use : (ls : List Lift) {a : List ℕ} {n : ℕ} → a ≡ table (λ r. named New r ls) → n ≡ length (rounds (λ t. ltb 0 (getD a t 0))) → n ≡ length (inUse New ls)
+pub in-use : (ls : List Lift) {a : List ℕ} {n : ℕ} → a ≡ table (λ r. liftCount New r ls) → n ≡ length (rounds (λ t. ltb 0 (getD a t 0))) → n ≡ length (inUse New ls)
 in-use ls ea e = e ∙ ap length (tested (λ x y. ltb 0 x) _ _ ea ea)
 
 -- how many donors each round has
-pub counted : {ws words counts : List ℕ} → Legible ws → words ≡ donorsOf (lifts ws) → counts ≡ donorCounts words → counts ≡ table (λ r. length (donors r (lifts ws)))
+pub counted : {ws words counts : List ℕ} → Legible ws → words ≡ donorBits (lifts ws) → counts ≡ donorCounts words → counts ≡ table (λ r. length (donors r (lifts ws)))
 counted {ws} {words} l ew ec =
     tabulated _ (ap length ec ∙ length-tabulate (mostRounds + 1) _) (λ r h. ap (λ t. getD t r 0) ec ∙ getD-tabulate (mostRounds + 1) _ r h ∙ count r (omega arith))
   where
@@ -57,42 +57,42 @@ counted {ws} {words} l ew ec =
 -- ---- the ways out
 
 -- a refusal that meets a round, and one that meets none
-met : (n : ℕ) {r : ℕ} (rs : List ℕ) (v : Verdict) → At r ≡ first rs → refused (numbered n r) ≡ firstRound n rs v
+met : (n : ℕ) {r : ℕ} (rs : List ℕ) (v : Verdict) → At r ≡ foundFirst rs → refused (numbered n r) ≡ firstRound n rs v
 unfolding firstRound
 met n [] v e = cc
 met n (x ∷ rs) v e = cc
 
-unmet : (n : ℕ) (rs : List ℕ) (v : Verdict) → Nothing ≡ first rs → v ≡ firstRound n rs v
+unmet : (n : ℕ) (rs : List ℕ) (v : Verdict) → Nothing ≡ foundFirst rs → v ≡ firstRound n rs v
 unfolding firstRound
 unmet n [] v e = refl
 unmet n (r ∷ rs) v e = cc
 
 module _ (ls : List Lift) where
-  pub at-unheld : {r : ℕ} → At r ≡ first (rounds (unheld ls)) → refused (numbered 7 r) ≡ ofRounds ls
+  pub at-notOneHeld : {r : ℕ} → At r ≡ foundFirst (rounds (notOneHeld ls)) → refused (numbered 7 r) ≡ ofRounds ls
   unfolding ofRounds
-  at-unheld e = met 7 _ _ e
+  at-notOneHeld e = met 7 _ _ e
 
-  module _ (a : Nothing ≡ first (rounds (unheld ls))) where
-    pub at-old : {r : ℕ} → At r ≡ first (rounds (oversize Old ls)) → refused (numbered 8 r) ≡ ofRounds ls
+  module _ (a : Nothing ≡ foundFirst (rounds (notOneHeld ls))) where
+    pub at-old : {r : ℕ} → At r ≡ foundFirst (rounds (oversize Old ls)) → refused (numbered 8 r) ≡ ofRounds ls
     unfolding ofRounds
     at-old e = met 8 _ _ e ∙ unmet 7 _ _ a
 
-    module _ (b : Nothing ≡ first (rounds (oversize Old ls))) where
-      pub at-new : {r : ℕ} → At r ≡ first (rounds (oversize New ls)) → refused (numbered 8 r) ≡ ofRounds ls
+    module _ (b : Nothing ≡ foundFirst (rounds (oversize Old ls))) where
+      pub at-new : {r : ℕ} → At r ≡ foundFirst (rounds (oversize New ls)) → refused (numbered 8 r) ≡ ofRounds ls
       unfolding ofRounds
       at-new e = met 8 _ _ e ∙ unmet 8 _ _ b ∙ unmet 7 _ _ a
 
-      module _ (c : Nothing ≡ first (rounds (oversize New ls))) where
-        pub at-unmeasured : {r : ℕ} → At r ≡ first (rounds (unmeasured ls)) → refused (numbered 9 r) ≡ ofRounds ls
+      module _ (c : Nothing ≡ foundFirst (rounds (oversize New ls))) where
+        pub at-zeroSum : {r : ℕ} → At r ≡ foundFirst (rounds (zeroSum ls)) → refused (numbered 9 r) ≡ ofRounds ls
         unfolding ofRounds
-        at-unmeasured e = met 9 _ _ e ∙ unmet 8 _ _ c ∙ unmet 8 _ _ b ∙ unmet 7 _ _ a
+        at-zeroSum e = met 9 _ _ e ∙ unmet 8 _ _ c ∙ unmet 8 _ _ b ∙ unmet 7 _ _ a
 
-        module _ (d : Nothing ≡ first (rounds (unmeasured ls))) where
-          pub at-crowded : {r : ℕ} → At r ≡ first (rounds (crowded ls)) → refused (numbered 10 r) ≡ ofRounds ls
+        module _ (d : Nothing ≡ foundFirst (rounds (zeroSum ls))) where
+          pub at-tooManyDonors : {r : ℕ} → At r ≡ foundFirst (rounds (tooManyDonors ls)) → refused (numbered 10 r) ≡ ofRounds ls
           unfolding ofRounds
-          at-crowded e = met 10 _ _ e ∙ unmet 9 _ _ d ∙ unmet 8 _ _ c ∙ unmet 8 _ _ b ∙ unmet 7 _ _ a
+          at-tooManyDonors e = met 10 _ _ e ∙ unmet 9 _ _ d ∙ unmet 8 _ _ c ∙ unmet 8 _ _ b ∙ unmet 7 _ _ a
 
-          pub at-last : Nothing ≡ first (rounds (crowded ls)) → fits (length ls) (length (inUse New ls)) ≡ ofRounds ls
+          pub at-last : Nothing ≡ foundFirst (rounds (tooManyDonors ls)) → fits (length ls) (length (inUse New ls)) ≡ ofRounds ls
           unfolding ofRounds
           at-last e = unmet 10 _ _ e ∙ unmet 9 _ _ d ∙ unmet 8 _ _ c ∙ unmet 8 _ _ b ∙ unmet 7 _ _ a
 
@@ -125,22 +125,22 @@ decided ws =
           let g = f .rounds in
           sym
           (at-rounds ws (words-legible (f .legible))
-          (rw (clear (unheld ls) (g .held), clear (oversize Old ls) (g .old), clear (oversize New ls) (g .new), clear (unmeasured ls) (g .measured), clear (crowded ls) (g .donors))));
+          (rw (clear (notOneHeld ls) (g .held), clear (oversize Old ls) (g .old), clear (oversize New ls) (g .new), clear (zeroSum ls) (g .measured), clear (tooManyDonors ls) (g .donors))));
       only = λ n k e.
           let w = read-through (ofWords ws) (ofRounds ls) e in
-          let a = passed 7 (rounds (unheld ls)) _ (w .1) in
+          let a = passed 7 (rounds (notOneHeld ls)) _ (w .1) in
           let b = passed 8 (rounds (oversize Old ls)) _ (a .1) in
           let c = passed 8 (rounds (oversize New ls)) _ (b .1) in
-          let d = passed 9 (rounds (unmeasured ls)) _ (c .1) in
-          let g = passed 10 (rounds (crowded ls)) _ (d .1) in
+          let d = passed 9 (rounds (zeroSum ls)) _ (c .1) in
+          let g = passed 10 (rounds (tooManyDonors ls)) _ (d .1) in
           let fitting : Fitting ws = record {
             legible = legible-words (w .0);
             rounds = record {
-              held = none (unheld ls) (a .0);
+              held = none (notOneHeld ls) (a .0);
               old = none (oversize Old ls) (b .0);
               new = none (oversize New ls) (c .0);
-              measured = none (unmeasured ls) (d .0);
-              donors = none (crowded ls) (g .0);
+              measured = none (zeroSum ls) (d .0);
+              donors = none (tooManyDonors ls) (g .0);
             };
           } in
           (fitting, cc (g .1), cc (g .1));
@@ -151,24 +151,24 @@ decided ws =
     ls = lifts ws
 
     clear : (p : ℕ → Bool) → ((r : ℕ) → 1 ≤ r → r ≤ mostRounds → p r ≡ false) → rounds p ≡ []
-    clear p h = those-none p 1 mostRounds (λ t l m. h t l (omega arith))
+    clear p h = filter-none p 1 mostRounds (λ t l m. h t l (omega arith))
 
     none : (p : ℕ → Bool) → rounds p ≡ [] → (r : ℕ) → 1 ≤ r → r ≤ mostRounds → p r ≡ false
-    none p e r l m = none-those p 1 mostRounds e r l (omega arith)
+    none p e r l m = none-filtered p 1 mostRounds e r l (omega arith)
 
 -- the lifts of a fitting sheet fit
 pub fit : {ws : List ℕ} → Fitting ws → Fit (lifts ws)
-fit {ws} f = record { listable = read-theorem ws (f .legible .read) .listable; rounds = f .rounds }
+fit {ws} f = record { wellFormed = read-theorem ws (f .legible .read) .wellFormed; rounds = f .rounds }
 
 -- and lifts that fit have a fitting sheet, if it is not too long
 pub fits-sheet : {ls : List Lift} → Fit ls → length (sheetOf ls) ≤ longest → Fitting (sheetOf ls)
 fits-sheet {ls} f h =
-    let w = written-theorem ls (f .listable) in
+    let w = written-theorem ls (f .wellFormed) in
     record { legible = record { short = h; read = w .sound }; rounds = rw (w .back) (f .rounds) }
 
 -- ---- the answer with the tables
 
 -- a sheet that is refused does not fit, so nothing is asked of its tables
-pub answered-refused : {ws : List ℕ} {x : Refusal} {e : Examined} → e .checked ≡ Refused x → refused (refusalOf x) ≡ verdict ws → Answered ws e
+pub answered-refused : {ws : List ℕ} {x : Refusal} {e : Examined} → e .checked ≡ Refused x → refused (refusalOf x) ≡ verdict ws → VerdictAndTables ws e
 answered-refused {ws} {x} q h =
     record { verdict = ap verdictOf q ∙ h; tables = λ f. let p = decided ws .passes f in let z : _≡_ {A = ℕ} 0 1 = cc in absurd (omega arith) }

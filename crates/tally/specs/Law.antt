@@ -7,10 +7,10 @@ use lib.ListN.{length}
 use Rattle.reply.specs.Reply.{Numbered}
 use Rattle.sheet.specs.Sheet.{mostRounds, Lift, lifts}
 use Rattle.sheet.specs.Reading.{Legible}
-use Rattle.sheet.specs.Law.{Listable}
+use Rattle.sheet.specs.Law.{WellFormed}
 use Rattle.sheet.specs.Lift.{Old, New}
 use Rattle.tally.specs.Rounds.{inUse}
-use Rattle.tally.specs.Verdict.{refused, fits, unheld, oversize, unmeasured, crowded, verdict, verdictOf}
+use Rattle.tally.specs.Verdict.{refused, fits, notOneHeld, oversize, zeroSum, tooManyDonors, verdict, verdictOf}
 use Rattle.tally.specs.Tables.{Tabled}
 use Rattle.tally.specs.declared.Examined.{Examined}
 
@@ -22,15 +22,15 @@ Nowhere p = (r : ℕ) → 1 ≤ r → r ≤ mostRounds → p r ≡ false
 
 -- none of the refusals 7 to 10 applies to any round of some lifts
 pub record RoundsFit (ls : List Lift) : Type 0 where
-  pub held : Nowhere (unheld ls)
+  pub held : Nowhere (notOneHeld ls)
   pub old : Nowhere (oversize Old ls)
   pub new : Nowhere (oversize New ls)
-  pub measured : Nowhere (unmeasured ls)
-  pub donors : Nowhere (crowded ls)
+  pub measured : Nowhere (zeroSum ls)
+  pub donors : Nowhere (tooManyDonors ls)
 
 -- lifts fit when a sheet can tell them and none of the refusals of rounds applies
 pub record Fit (ls : List Lift) : Type 0 where
-  pub listable : Listable ls
+  pub wellFormed : WellFormed ls
   pub rounds : RoundsFit ls
 
 -- a sheet fits when none of the refusals applies
@@ -51,6 +51,6 @@ DecidedTheorem = (ws : List ℕ) → Decided ws
 -- ---- the answer with the tables
 
 -- what is answered to a sheet: the verdict and, of a sheet that fits, its tables
-pub record Answered (ws : List ℕ) (e : Examined) : Type 0 where
+pub record VerdictAndTables (ws : List ℕ) (e : Examined) : Type 0 where
   pub verdict : verdictOf (e .checked) ≡ verdict ws
   pub tables : Fitting ws → Tabled (lifts ws) (e .tallies)

@@ -9,38 +9,38 @@ use Rattle.sheet.specs.Sheet.{mostRounds, Lift}
 use Rattle.sheet.specs.Lift.{placeAt, Side}
 
 -- those of the n numbers from a up that pass a test, rising
-unfoldable pub those : (ℕ → Bool) → ℕ → ℕ → List ℕ
-those p a zero = []
-those p a (suc n) = cond (p a) (a ∷ those p (suc a) n) (those p (suc a) n)
+unfoldable pub filterRange : (ℕ → Bool) → ℕ → ℕ → List ℕ
+filterRange p a zero = []
+filterRange p a (suc n) = cond (p a) (a ∷ filterRange p (suc a) n) (filterRange p (suc a) n)
 
 -- the rounds that pass a test: "rounds 1 to 100"
 abbrev pub rounds : (ℕ → Bool) → List ℕ
-rounds p = those p 1 mostRounds
+rounds p = filterRange p 1 mostRounds
 
 -- how many lifts name round r
-abbrev pub named : Side → ℕ → List Lift → ℕ
-named side r ls = totalBy (λ l. placeAt side l .round) (λ _. 1) r ls
+abbrev pub liftCount : Side → ℕ → List Lift → ℕ
+liftCount side r ls = totalBy (λ l. placeAt side l .round) (λ _. 1) r ls
 
 -- "Old and new rounds are those from 1 up that some lift names; 0 is neither."
 abbrev pub inUse : Side → List Lift → List ℕ
-inUse side ls = rounds (λ r. ltb 0 (named side r ls))
+inUse side ls = rounds (λ r. ltb 0 (liftCount side r ls))
 
 -- the "sum of a round's measures"
 abbrev pub sumOf : Side → ℕ → List Lift → ℕ
 sumOf side r ls = totalBy (λ l. placeAt side l .round) (λ l. placeAt side l .measure) r ls
 
 -- how many held lifts an old round has
-abbrev pub heldIn : ℕ → List Lift → ℕ
-heldIn r ls = totalBy (λ l. l .old .round) (λ l. indicator (l .held)) r ls
+abbrev pub heldCount : ℕ → List Lift → ℕ
+heldCount r ls = totalBy (λ l. l .old .round) (λ l. indicator (l .held)) r ls
 
 -- whether a lift comes from old round t to new round r with an old measure above 0
-abbrev pub comes : ℕ → ℕ → Lift → Bool
-comes t r l = eqb (l .old .round) t && (eqb (l .new .round) r && ltb 0 (l .old .measure))
+abbrev pub brings : ℕ → ℕ → Lift → Bool
+brings t r l = eqb (l .old .round) t && (eqb (l .new .round) r && ltb 0 (l .old .measure))
 
 -- "Old round t is a donor of a new round if it sends it a lift of old measure above 0."
 unfoldable pub sends : ℕ → ℕ → List Lift → Bool
 sends t r [] = false
-sends t r (l ∷ ls) = comes t r l || sends t r ls
+sends t r (l ∷ ls) = brings t r l || sends t r ls
 
 -- the donors of a new round, "the different old rounds that send it measure", rising
 abbrev pub donors : ℕ → List Lift → List ℕ

@@ -8,7 +8,7 @@ use lib.ListN.{getD}
 use lib.Count.{ones}
 use Rattle.probability.specs.Sum.{indicator}
 use Rattle.sheet.specs.Sheet.{mostRounds, Lift}
-use Rattle.tally.specs.Rounds.{named, sumOf, heldIn, sends}
+use Rattle.tally.specs.Rounds.{liftCount, sumOf, heldCount, sends}
 use Rattle.sheet.specs.Lift.{Old, New}
 use Rattle.tally.specs.declared.Tallies.{Tallies}
 use Rattle.tally.specs.declared.Found.{Found}
@@ -33,8 +33,8 @@ abbrev pub bitOf : (round measure : ℕ) → ℕ
 bitOf round measure = bits 64 (λ t. eqb (round % 64) t && ltb 0 measure)
 
 -- for each new round two words, with a bit for each of the old rounds from 0 up and from 64 up: whether it is a donor
-abbrev pub donorsOf : List Lift → List ℕ
-donorsOf ls = tabulate (2 * (mostRounds + 1)) (λ k. bits 64 (λ t. sends (64 * (k % 2) + t) (k / 2) ls))
+abbrev pub donorBits : List Lift → List ℕ
+donorBits ls = tabulate (2 * (mostRounds + 1)) (λ k. bits 64 (λ t. sends (64 * (k % 2) + t) (k / 2) ls))
 
 -- "the different old rounds that send it measure are counted": how many bits are set in each new round's two words
 abbrev pub donorCounts : List ℕ → List ℕ
@@ -42,14 +42,14 @@ donorCounts words = table (λ r. ones (getD words (2 * r) 0) + ones (getD words 
 
 -- the tables of some lifts
 pub record Tabled (ls : List Lift) (t : Tallies) : Type 0 where
-  pub old-lifts : t .«old_lifts» ≡ table (λ r. named Old r ls)
-  pub held : t .held ≡ table (λ r. heldIn r ls)
+  pub old-lifts : t .«old_lifts» ≡ table (λ r. liftCount Old r ls)
+  pub held : t .held ≡ table (λ r. heldCount r ls)
   pub old-sums : t .«old_sums» ≡ table (λ r. sumOf Old r ls)
-  pub new-lifts : t .«new_lifts» ≡ table (λ r. named New r ls)
+  pub new-lifts : t .«new_lifts» ≡ table (λ r. liftCount New r ls)
   pub new-sums : t .«new_sums» ≡ table (λ r. sumOf New r ls)
-  pub donors : t .donors ≡ donorsOf ls
+  pub donors : t .donors ≡ donorBits ls
 
 -- the first of some rounds, if there is one
-abbrev pub first : List ℕ → Found
-first [] = Nothing
-first (r ∷ rs) = At r
+abbrev pub foundFirst : List ℕ → Found
+foundFirst [] = Nothing
+foundFirst (r ∷ rs) = At r

@@ -8,7 +8,7 @@ use Rattle.sheet.specs.Sheet.{largestSum, Lift, lifts}
 use Rattle.reply.specs.Reply.{Numbered, numbered, Reply, ofRefusal}
 use Rattle.reply.specs.Refusal.{refusalOf}
 use Rattle.sheet.specs.Reading.{Reading, faulty, sound, ofWords}
-use Rattle.tally.specs.Rounds.{rounds, named, inUse, sumOf, heldIn, donors}
+use Rattle.tally.specs.Rounds.{rounds, liftCount, inUse, sumOf, heldCount, donors}
 use Rattle.sheet.specs.Lift.{Side, Old, New}
 use Rattle.tally.specs.declared.Rule.{Rule}
 use Rattle.tally.specs.declared.Rule.the-variants.{OneHeld, SmallSum, SomeMeasure, FewDonors}
@@ -30,20 +30,20 @@ breaks SomeMeasure lifts sum = ltb 0 lifts && eqb sum 0
 breaks FewDonors lifts donors = ltb 0 lifts && leb 3 donors
 
 -- "7. An old round from 1 up, named by any lift, without exactly one held lift."
-abbrev pub unheld : List Lift → ℕ → Bool
-unheld ls r = breaks OneHeld (named Old r ls) (heldIn r ls)
+abbrev pub notOneHeld : List Lift → ℕ → Bool
+notOneHeld ls r = breaks OneHeld (liftCount Old r ls) (heldCount r ls)
 
 -- "8. A sum above 1,048,576"
 abbrev pub oversize : Side → List Lift → ℕ → Bool
-oversize side ls r = breaks SmallSum (named side r ls) (sumOf side r ls)
+oversize side ls r = breaks SmallSum (liftCount side r ls) (sumOf side r ls)
 
 -- "9. A new round whose sum is 0."
-abbrev pub unmeasured : List Lift → ℕ → Bool
-unmeasured ls r = breaks SomeMeasure (named New r ls) (sumOf New r ls)
+abbrev pub zeroSum : List Lift → ℕ → Bool
+zeroSum ls r = breaks SomeMeasure (liftCount New r ls) (sumOf New r ls)
 
 -- "10. A new round with three donors or more; the different old rounds that send it measure are counted."
-abbrev pub crowded : List Lift → ℕ → Bool
-crowded ls r = breaks FewDonors (named New r ls) (length (donors r ls))
+abbrev pub tooManyDonors : List Lift → ℕ → Bool
+tooManyDonors ls r = breaks FewDonors (liftCount New r ls) (length (donors r ls))
 
 -- ---- their order
 
@@ -55,11 +55,11 @@ firstRound n (r ∷ rs) v = refused (numbered n r)
 -- "then 7, 8, 9, 10, each over all rounds rising before the next"; of 8, "old rounds tried first"
 unfoldable pub ofRounds : List Lift → Verdict
 ofRounds ls =
-    firstRound 7 (rounds (unheld ls))
+    firstRound 7 (rounds (notOneHeld ls))
     (firstRound 8 (rounds (oversize Old ls))
     (firstRound 8 (rounds (oversize New ls))
-    (firstRound 9 (rounds (unmeasured ls))
-    (firstRound 10 (rounds (crowded ls))
+    (firstRound 9 (rounds (zeroSum ls))
+    (firstRound 10 (rounds (tooManyDonors ls))
     (fits (length ls) (length (inUse New ls)))))))
 
 -- the refusal that a reading met, else what follows

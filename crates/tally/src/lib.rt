@@ -9,8 +9,8 @@ ghost use Rattle.sheet.specs.Sheet.{lifts};
 ghost use Rattle.sheet.specs.Reading.{Legible};
 ghost use Rattle.tally.specs.Rounds.{rounds};
 ghost use Rattle.tally.specs.Verdict.{breaks as breaksOf, ofRounds, verdict, verdictOf};
-ghost use Rattle.tally.specs.Tables.{bitOf, donorCounts, Tabled, first as firstOf};
-ghost use Rattle.tally.specs.Law.{Answered};
+ghost use Rattle.tally.specs.Tables.{bitOf, donorCounts, Tabled, foundFirst as firstOf};
+ghost use Rattle.tally.specs.Law.{VerdictAndTables};
 use reply::Refusal;
 use sheet::Judged;
 use sheet::Sheet;
@@ -119,7 +119,11 @@ fn breaks(rule: Rule, lifts: u64, n: u64) -> bool
 }
 
 // The first round that breaks a rule, from the tables of both numbers.
-fn first<'a>(rule: Rule, lifts: &'a [u64; Sheet::TABLE], numbers: &'a [u64; Sheet::TABLE]) -> Found
+fn first_breaking<'a>(
+    rule: Rule,
+    lifts: &'a [u64; Sheet::TABLE],
+    numbers: &'a [u64; Sheet::TABLE],
+) -> Found
     ensures { λ r. ⌜ r ≡ firstOf (rounds (λ t. breaksOf rule (getD (now (lifts .entry)) t 0) (getD (now (numbers .entry)) t 0))) ⌝ }
 {
     let mut r = 1;
@@ -183,20 +187,20 @@ fn check_rounds(sheet: &[u32], t: Tallies) -> Checked
     requires { ⌜ Tabled (lifts (now sheet)) t ⌝ }
     ensures { λ r. ⌜ verdictOf r ≡ ofRounds (lifts (now (sheet .entry))) ⌝ }
 {
-    if let Found::At(r) = first(Rule::OneHeld, &t.old_lifts, &t.held) {
+    if let Found::At(r) = first_breaking(Rule::OneHeld, &t.old_lifts, &t.held) {
         return Checked::Refused(Refusal::NotOneHeld(r));
     }
-    if let Found::At(r) = first(Rule::SmallSum, &t.old_lifts, &t.old_sums) {
+    if let Found::At(r) = first_breaking(Rule::SmallSum, &t.old_lifts, &t.old_sums) {
         return Checked::Refused(Refusal::Oversize(r));
     }
-    if let Found::At(r) = first(Rule::SmallSum, &t.new_lifts, &t.new_sums) {
+    if let Found::At(r) = first_breaking(Rule::SmallSum, &t.new_lifts, &t.new_sums) {
         return Checked::Refused(Refusal::Oversize(r));
     }
-    if let Found::At(r) = first(Rule::SomeMeasure, &t.new_lifts, &t.new_sums) {
+    if let Found::At(r) = first_breaking(Rule::SomeMeasure, &t.new_lifts, &t.new_sums) {
         return Checked::Refused(Refusal::ZeroSum(r));
     }
     let donors = donor_counts(t.donors);
-    if let Found::At(r) = first(Rule::FewDonors, &t.new_lifts, &donors) {
+    if let Found::At(r) = first_breaking(Rule::FewDonors, &t.new_lifts, &donors) {
         return Checked::Refused(Refusal::TooManyDonors(r));
     }
     Checked::Fits(Sheet {
@@ -226,7 +230,7 @@ fn refuse(x: Refusal) -> Examined
 
 // The answer to any words: refused, with the document's number and place, or fitting, with the tables by round.
 pub fn examine(sheet: &[u32]) -> Examined
-    ensures { λ r. ⌜ Answered (now (sheet .entry)) r ⌝ }
+    ensures { λ r. ⌜ VerdictAndTables (now (sheet .entry)) r ⌝ }
 {
     match sheet::read(sheet) {
         Judged::Faulty(x) => refuse(x),

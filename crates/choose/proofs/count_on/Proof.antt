@@ -1,7 +1,7 @@
 -- `choose::count_on` meets its contract. The loop's invariant: the size is at least what was kept, which filled the room, and it
 -- fits, since a piece is added only where there is room for the longest. The measure is how far the size is from 2^64. Assumes nothing.
 use mathlib.Core.Path.{subst}
-use Rattle.choose.specs.Reading.{Within}
+use Rattle.choose.specs.Reading.{ReadsAtMost}
 use Prim.Native.Nat.{_<_, _≤_, _-_, _^_}
 use native.Mathlib.Omega.{arith}
 use borrow.Author.Needs.{needs}
@@ -31,7 +31,7 @@ returns-2 c = search needs
 
 -- a piece has at most 65,536 bytes
 piece-fits : (c : tie.Else2 Inv-loop μ-loop) → c .before .before .got .given .0 .0 ≤ 65536
-piece-fits c = subst (Within 65536) (c .before .before .got .given .1) (c .before .before .before .before .read-piece .ensures)
+piece-fits c = subst (ReadsAtMost 65536) (c .before .before .got .given .1) (c .before .before .before .before .read-piece .ensures)
 
 add-size : tie.Need-add-size Inv-loop μ-loop
 add-size c = omega (arith, piece-fits c)

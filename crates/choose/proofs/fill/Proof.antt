@@ -1,7 +1,7 @@
 -- `choose::fill` meets its contract. The loop's invariant: what was read lies within the bytes, which keep their length. The measure
 -- is the room that is left, since each turn reads at least one byte. Assumes nothing.
 use borrow.Rule.Slice.PartMut.{mid-len, same-len-mid}
-use Rattle.choose.specs.Reading.{Within}
+use Rattle.choose.specs.Reading.{ReadsAtMost}
 use Prim.Native.Nat.{_≤_, _-_}
 use mathlib.Core.Path.{_≡_, _∙_, subst}
 use native.Mathlib.Omega.{arith}
@@ -44,7 +44,7 @@ returns c = search needs
 fits-behind : (c : tie.Else1 Inv-loop μ-loop) → let l = c .before .before .before .before .before .before .before .before .before .loop in c .before .before .got .given .0 .0 ≤ length (l .bytes) - l .done
 fits-behind c =
     let l = c .before .before .before .before .before .before .before .before .before .loop in
-    subst (λ n. c .before .before .got .given .0 .0 ≤ n) (mid-len (l .done) (length (l .bytes)) (l .bytes) (omega arith)) (subst (Within _) (c .before .before .got .given .1) (c .before .before .before .before .before .before .read-some .ensures))
+    subst (λ n. c .before .before .got .given .0 .0 ≤ n) (mid-len (l .done) (length (l .bytes)) (l .bytes) (omega arith)) (subst (ReadsAtMost _) (c .before .before .got .given .1) (c .before .before .before .before .before .before .read-some .ensures))
 
 add-done : tie.Need-add-done Inv-loop μ-loop
 add-done c = omega (arith, fits-behind c)

@@ -1,6 +1,6 @@
 -- `choose::read_all` meets its contract: what `fill` and `count_on` ensure, by the two cases of each answer. Assumes nothing.
 use mathlib.Core.Path.{subst}
-use Rattle.choose.specs.Reading.{Within, Extends}
+use Rattle.choose.specs.Reading.{ReadsAtMost, Extends}
 use borrow.Author.Needs.{needs}
 use Rattle.choose.proofs.read_all.Statement.{statement}
 use Rattle.choose.proofs.read_all.Tie as tie
@@ -21,7 +21,7 @@ returns : tie.Need-returns
 returns c = search needs
 
 count-on-requires : tie.Need-count-on-requires
-count-on-requires c κs = subst (Within _) (c .before .start .given .1) (c .before .before .before .before .before .fill .ensures)
+count-on-requires c κs = subst (ReadsAtMost _) (c .before .start .given .1) (c .before .before .before .before .before .fill .ensures)
 
 enum-known-whole : tie.Need-enum-known-whole
 enum-known-whole c = search needs

@@ -1,6 +1,6 @@
 -- `choose::read_piece` meets its contract: a piece is as long as its buffer at most. Assumes nothing.
 use mathlib.Core.Path.{subst, sym}
-use Rattle.choose.specs.Reading.{Within}
+use Rattle.choose.specs.Reading.{ReadsAtMost}
 use borrow.Author.Needs.{needs}
 use Rattle.choose.proofs.read_piece.Statement.{statement}
 use Rattle.choose.proofs.read_piece.Tie as tie
@@ -16,7 +16,7 @@ read-some-requires c κs = search needs
 
 returns : tie.Need-returns
 returns c =
-    subst (λ n. Within n (c .before .read-some .result)) (sym (c .before .before .before .large-buffer .ensures)) (c .before .read-some .ensures)
+    subst (λ n. ReadsAtMost n (c .before .read-some .result)) (sym (c .before .before .before .large-buffer .ensures)) (c .before .read-some .ensures)
 
 pub read-piece-spec : {M : Type 1} → statement M
 read-piece-spec =

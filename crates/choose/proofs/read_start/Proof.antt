@@ -1,7 +1,7 @@
 -- `choose::read_start` meets its contract: what `fill` ensures, by the two cases of its answer. Assumes nothing.
 use mathlib.Core.Path.{subst, sym}
 use lib.Seq.{length-take-le}
-use Rattle.choose.specs.Reading.{Within}
+use Rattle.choose.specs.Reading.{ReadsAtMost}
 use borrow.Author.Needs.{needs}
 use Rattle.choose.proofs.read_start.Statement.{statement}
 use Rattle.choose.proofs.read_start.Tie as tie
@@ -29,7 +29,7 @@ same-length c = search needs
 
 returns-2 : tie.Need-returns-2
 returns-2 c =
-    let fits = subst (Within _) (c .before .got .given .1) (c .before .before .before .before .before .before .fill .ensures) in
+    let fits = subst (ReadsAtMost _) (c .before .got .given .1) (c .before .before .before .before .before .before .fill .ensures) in
     (fits, sym (length-take-le _ _ fits))
 
 same-length-2 : tie.Need-same-length-2

@@ -1,7 +1,7 @@
 -- `counts::take_lines` meets its contract: one law for each way out. Assumes nothing.
 use mathlib.Core.Path.{sym, ap, subst, _∙_}
 use lib.ListN.{replicate}
-use Rattle.counts.specs.Scan.{Numbers}
+use Rattle.counts.specs.Scan.{LiftNumbers}
 use Rattle.counts.proofs.Taking.{numbers, at-line, at-end, end-long, end-small}
 use borrow.Author.Needs.{needs}
 use Rattle.counts.proofs.take_lines.Statement.{statement}
@@ -11,7 +11,7 @@ number-lifts-requires : tie.Need-number-lifts-requires
 number-lifts-requires c κs = search needs
 
 gather-requires : tie.Need-gather-requires
-gather-requires c κs = (subst Numbers (sym (c .before .before .before .before .number-lifts .ensures)) (numbers (c .before .before .before .before .before .before .before .before .before .before .before .before .pre .0)), c .before .before .before .before .before .before .before .before .before .before .before .before .pre .1 .1 .0 ∙ ap (λ n. replicate n 0) (sym (c .before .before .before .numbers .given ∙ c .before .before .before .before .before .before .before .before .before .before .before .before .pre .1 .0)))
+gather-requires c κs = (subst LiftNumbers (sym (c .before .before .before .before .number-lifts .ensures)) (numbers (c .before .before .before .before .before .before .before .before .before .before .before .before .pre .0)), c .before .before .before .before .before .before .before .before .before .before .before .before .pre .1 .1 .0 ∙ ap (λ n. replicate n 0) (sym (c .before .before .before .numbers .given ∙ c .before .before .before .before .before .before .before .before .before .before .before .before .pre .1 .0)))
 
 enum-known-x : tie.Need-enum-known-x
 enum-known-x c = search needs

@@ -1,6 +1,6 @@
 -- `report::put_line` meets its contract: three fields, one behind another. Assumes nothing.
 use native.Mathlib.Omega.{arith}
-use Rattle.report.specs.Report.{line}
+use Rattle.report.specs.Report.{choiceLine}
 use Rattle.report.proofs.Sizes.{length-line}
 use Rattle.report.proofs.Texts.{three}
 use borrow.Author.Needs.{needs}
@@ -26,7 +26,7 @@ same-length : tie.Need-same-length
 same-length c = search needs
 
 returns : tie.Need-returns
-unfolding line
+unfolding choiceLine
 returns c =
     let room = c .before .before .before .before .before .before .before .before .before .before .before .before .before .pre in
     three (omega arith) (c .before .before .before .before .before .before .before .before .before .before .put-field .ensures) (c .before .before .before .before .before .before .put-field2 .ensures) (c .before .before .put-field3 .ensures)

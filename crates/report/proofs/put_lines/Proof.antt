@@ -3,7 +3,7 @@ use Prim.Native.Nat.{_+_, _-_, _/_}
 use mathlib.Core.Path.{_≡_}
 use mathlib.Core.List.{_++_}
 use lib.ListN.{length}
-use Rattle.report.specs.Report.{line as lineOf, pairLines}
+use Rattle.report.specs.Report.{choiceLine as lineOf, pairLines}
 use Rattle.report.proofs.Texts.{Writing, writing-none, writing-turn, writing-length, writing-room, writing-end}
 use Rattle.report.proofs.Pairs.{linesFrom, left-pair, no-pair}
 use native.Mathlib.Omega.{arith}

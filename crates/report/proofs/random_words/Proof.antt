@@ -2,7 +2,7 @@
 use Prim.Native.Nat.{_≤_}
 use mathlib.Core.Path.{ap, _∙_}
 use lib.ListN.{length, take}
-use Rattle.report.specs.Report.{wordsOf, mostWords}
+use Rattle.report.specs.Report.{littleEndianWords, mostWords}
 use Rattle.report.proofs.Words.{first-words, lent, decoded}
 use native.Mathlib.Omega.{arith}
 use borrow.Author.Needs.{needs}
@@ -33,7 +33,7 @@ returns c =
     let a = c .before .before .before .before .before .before .before .args in
     let n = c .before .before .before .before .fewer in
     decoded 8 (n .result) (a .bytes .now) (a .words .now) (omega (arith, n .ensures)) (inside (c .before .before .before .before)) (c .before .before .words64 .ensures)
-    (ap (λ k. take k (wordsOf 8 (a .bytes .now))) (n .ensures) ∙ first-words 8 mostWords (a .bytes .now))
+    (ap (λ k. take k (littleEndianWords 8 (a .bytes .now))) (n .ensures) ∙ first-words 8 mostWords (a .bytes .now))
 
 pub random-words-spec : {M : Type 1} → statement M
 random-words-spec =

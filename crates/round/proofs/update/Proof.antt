@@ -1,13 +1,13 @@
 -- `round::update` meets its contract: one law for each way out; where the lift may be dropped, the growths have a sum above 0. Assumes nothing.
 use borrow.Author.Needs.{needs}
-use Rattle.round.specs.Rows.{lifts}
-use Rattle.round.proofs.Loops.{Weighed, old-fits, new-fits, moves-G}
+use Rattle.round.specs.Rows.{rowLifts}
+use Rattle.round.proofs.Loops.{SumKept, old-fits, new-fits, moves-G}
 use Rattle.round.proofs.Answers.{stays, kept, moved, update-short}
 use Rattle.round.proofs.update.Statement.{statement}
 use Rattle.round.proofs.update.Tie as tie
 
 -- the lift at i, once its multiplier is known
-weighed : (c : tie.After-multiplier) → let a = c .before .before .before .before .args in Weighed (a .s) (lifts (a .rows .now)) (a .i) (c .multiplier .result) (c .before .lift-at .result)
+weighed : (c : tie.After-multiplier) → let a = c .before .before .before .before .args in SumKept (a .s) (rowLifts (a .rows .now)) (a .i) (c .multiplier .result) (c .before .lift-at .result)
 weighed c = record { inside = c .before .before .before .before .pre .1 .1; reads = c .before .lift-at .ensures; multiplies = c .multiplier .ensures }
 
 lift-at-requires : tie.Need-lift-at-requires

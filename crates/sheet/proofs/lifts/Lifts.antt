@@ -10,13 +10,13 @@ use lib.Seq.{getD-drop}
 use borrow.Author.Tests.{eq-eqb, ne-eqb, eqb-true, eqb-false}
 use Rattle.probability.specs.Sum.{indicator}
 use Rattle.sheet.specs.Sheet.{kind, payload, heldKind, placeOf, liftOf, word}
-use Rattle.sheet.specs.Lift.{filledIn, Marked, entryOf}
+use Rattle.sheet.specs.Lift.{filledIn, MarkSound, entryOf}
 
-pub entry-told : (ws : List ℕ) (i : ℕ) {number from old to new written : ℕ} {held : Bool} → number ≡ payload (getD ws i 0) → from ≡ placeOf (getD ws (i + 1) 0) .round
+pub entry-read : (ws : List ℕ) (i : ℕ) {number from old to new written : ℕ} {held : Bool} → number ≡ payload (getD ws i 0) → from ≡ placeOf (getD ws (i + 1) 0) .round
     → old ≡ placeOf (getD ws (i + 1) 0) .measure → to ≡ placeOf (getD ws (i + 2) 0) .round → written ≡ placeOf (getD ws (i + 2) 0) .measure
-    → new ≡ filledIn old written → Marked (drop i ws) → held ≡ eqb (getD ws (i + 3) 0) (word heldKind 0)
+    → new ≡ filledIn old written → MarkSound (drop i ws) → held ≡ eqb (getD ws (i + 3) 0) (word heldKind 0)
     → record { number = number; from = from; old = old; to = to; new = new; held = held } ≡ entryOf (liftOf (drop i ws))
-entry-told ws i a b c d e f m g =
+entry-read ws i a b c d e f m g =
     rw (a, b, f, c, d, e, g ∙ mark, getD-drop i ws 0 0, getD-drop i ws 1 0, getD-drop i ws 2 0, getD-drop i ws 3 0, add-zero)
   where
     w : ℕ

@@ -4,13 +4,13 @@ use Prim.Native.Nat.{_+_, _-_}
 use lib.Dec.{ltb}
 use lib.ListN.{getD}
 use Rattle.sheet.specs.Sheet.{mostRounds}
-use Rattle.tally.proofs.Searches.{Counted, counted-none, counted-turn, counted-end}
+use Rattle.tally.proofs.Searches.{RoundsCounted, counted-none, counted-turn, counted-end}
 use borrow.Author.Needs.{needs}
 use Rattle.tally.proofs.in_use.Statement.{statement}
 use Rattle.tally.proofs.in_use.Tie as tie
 
 abbrev Inv-loop : tie.InvT-loop
-Inv-loop lifts n₀ r₀ n r = Counted (λ t. ltb 0 (getD lifts t 0)) n r
+Inv-loop lifts n₀ r₀ n r = RoundsCounted (λ t. ltb 0 (getD lifts t 0)) n r
 
 abbrev μ-loop : tie.MeasureT-loop
 μ-loop lifts n₀ r₀ n r = mostRounds + 1 - r

@@ -15,8 +15,8 @@ abbrev μ-loop : tie.MeasureT-loop
 loop-holds : tie.Need-loop-holds Inv-loop μ-loop
 loop-holds c = narrowed-none _ (c .before .pre .0)
 
-cut-requires : tie.Need-cut-requires Inv-loop μ-loop
-cut-requires c κs = (c .before .before .before .pre .0, (narrowed-room (c .before .before .before .pre .0) (c .before .loop .inv) (c .loop-test .taken) refl, c .before .before .before .pre .1))
+cut-at-requires : tie.Need-cut-at-requires Inv-loop μ-loop
+cut-at-requires c κs = (c .before .before .before .pre .0, (narrowed-room (c .before .before .before .pre .0) (c .before .loop .inv) (c .loop-test .taken) refl, c .before .before .before .pre .1))
 
 sub-size : tie.Need-sub-size Inv-loop μ-loop
 sub-size c = search needs
@@ -25,7 +25,7 @@ loop-less : tie.Need-loop-less Inv-loop μ-loop
 loop-less c = search needs
 
 loop-again : tie.Need-loop-again Inv-loop μ-loop
-loop-again c = narrowed-turn (c .before .before .before .before .pre .0) (c .before .before .loop .inv) (c .before .loop-test .taken) refl (c .cut .ensures)
+loop-again c = narrowed-turn (c .before .before .before .before .pre .0) (c .before .before .loop .inv) (c .before .loop-test .taken) refl (c .cut-at .ensures)
 
 returns : tie.Need-returns Inv-loop μ-loop
 returns c = narrowed-end (c .before .before .loop .inv) (omega (arith, c .before .loop-test .left)) (λ h e. omega (arith, c .if1 .taken))
@@ -49,7 +49,7 @@ find-spec =
     Inv-loop
     μ-loop
     loop-holds
-    cut-requires
+    cut-at-requires
     sub-size
     loop-less
     loop-again

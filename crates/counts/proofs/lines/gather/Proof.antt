@@ -2,14 +2,14 @@
 use Prim.Native.Nat.{_-_}
 use mathlib.Core.Path.{refl}
 use lib.ListN.{length}
-use Rattle.counts.proofs.Slots.{Kept, kept-none, kept-length, kept-same, kept-end, kept-malformed, kept-small, kept-lift, kept-less, kept-absent, kept-place, kept-had, kept-turn}
+use Rattle.counts.proofs.Slots.{LinesKept, kept-none, kept-length, kept-same, kept-end, kept-malformed, kept-small, kept-lift, kept-less, kept-absent, kept-place, kept-had, kept-turn}
 use native.Mathlib.Omega.{arith}
 use borrow.Author.Needs.{needs}
 use Rattle.counts.proofs.lines.gather.Statement.{statement}
 use Rattle.counts.proofs.lines.gather.Tie as tie
 
 abbrev Inv-loop : tie.InvT-loop
-Inv-loop text numbers measures₀ at₀ i₀ measures at i = Kept text numbers measures at i
+Inv-loop text numbers measures₀ at₀ i₀ measures at i = LinesKept text numbers measures at i
 
 abbrev μ-loop : tie.MeasureT-loop
 μ-loop text numbers measures₀ at₀ i₀ measures at i = length text - at

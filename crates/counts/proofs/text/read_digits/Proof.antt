@@ -3,13 +3,13 @@ use mathlib.Core.Path.{sym, _∙_}
 use borrow.Author.Tests.{not-true, not-false}
 use Prim.Native.Nat.{_-_}
 use lib.ListN.{length}
-use Rattle.counts.proofs.Numbers.{Reading, reading-none, reading-turn, reading-stop, reading-end}
+use Rattle.counts.proofs.Numbers.{DigitsRead, reading-none, reading-turn, reading-stop, reading-end}
 use borrow.Author.Needs.{needs}
 use Rattle.counts.proofs.text.read_digits.Statement.{statement}
 use Rattle.counts.proofs.text.read_digits.Tie as tie
 
 abbrev Inv-loop : tie.InvT-loop
-Inv-loop text at value₀ i₀ value i = Reading text at value i
+Inv-loop text at value₀ i₀ value i = DigitsRead text at value i
 
 abbrev μ-loop : tie.MeasureT-loop
 μ-loop text at value₀ i₀ value i = length text - i

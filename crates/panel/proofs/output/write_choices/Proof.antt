@@ -1,12 +1,12 @@
 -- `panel::write_choices` meets its contract: by whether the words ended. Assumes nothing.
 use mathlib.Core.Path.{_∙_}
-use Rattle.panel.proofs.Answers.{told-ended, told-done, written-ended, written-done}
+use Rattle.panel.proofs.Answers.{replied-ended, replied-done, written-ended, written-done}
 use borrow.Author.Needs.{needs}
 use Rattle.panel.proofs.output.write_choices.Statement.{statement}
 use Rattle.panel.proofs.output.write_choices.Tie as tie
 
 returns : tie.Need-returns
-returns c = record { replies = λ ls ws d _. told-ended ls ws _ _ d (c .if1 .taken); writes = λ ls ws d _. written-ended ls ws _ _ d (c .if1 .taken) _ }
+returns c = record { replies = λ ls ws d _. replied-ended ls ws _ _ d (c .if1 .taken); writes = λ ls ws d _. written-ended ls ws _ _ d (c .if1 .taken) _ }
 
 write-pairs-requires : tie.Need-write-pairs-requires
 write-pairs-requires c κs = c .before .before .before .before .before .before .before .pre .0 (c .before .before .before .before .before .if1 .left)
@@ -21,7 +21,7 @@ returns-2 : tie.Need-returns-2
 returns-2 c =
     let z = c .before .before .before .before .before .before .before .before .before .if1 .left in
     record {
-      replies = λ ls ws d e. told-done ls ws _ _ d z e;
+      replies = λ ls ws d e. replied-done ls ws _ _ d z e;
       writes = λ ls ws d f. c .before .before .before .write-pairs .ensures ∙ written-done ls ws _ _ d f z _;
     }
 

@@ -6,13 +6,13 @@ use mathlib.Core.Logic.{⊎-elim}
 use lib.ListN.{length, drop, length-drop}
 use lib.Seq.{length-take-le}
 use Rattle.sheet.specs.Sheet.{mostRounds}
-use Rattle.panel.proofs.Pairs.{Written, written-none, written-skip, room, written-turn, written-end}
+use Rattle.panel.proofs.Pairs.{PairsWritten, written-none, written-skip, room, written-turn, written-end}
 use borrow.Author.Needs.{needs}
 use Rattle.panel.proofs.output.write_pairs.Statement.{statement}
 use Rattle.panel.proofs.output.write_pairs.Tie as tie
 
 abbrev Inv-loop : tie.InvT-loop
-Inv-loop numbers outcomes out₀ start₀ round₀ out start round = Written numbers outcomes out₀ out start round
+Inv-loop numbers outcomes out₀ start₀ round₀ out start round = PairsWritten numbers outcomes out₀ out start round
 
 abbrev μ-loop : tie.MeasureT-loop
 μ-loop numbers outcomes out₀ start₀ round₀ out start round = mostRounds + 1 - round

@@ -11,7 +11,7 @@ use Rattle.panel.proofs.select.select_all.Tie as tie
 
 -- there is room for the rows
 room : (c : tie.After-size) → rowLength * c .size .result ≤ rowLength * mostLifts
-room c = omega (arith, c .size .ensures, fit (c .before .before .before .pre .0) .listable .few)
+room c = omega (arith, c .size .ensures, fit (c .before .before .before .pre .0) .wellFormed .few)
 
 size-requires : tie.Need-size-requires
 size-requires c κs = c .before .before .pre .0 .legible

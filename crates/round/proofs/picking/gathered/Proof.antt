@@ -1,13 +1,13 @@
 -- `round::gathered` meets its contract: the lifts passed stand at the start of the block. Assumes nothing.
 use borrow.Author.Needs.{needs}
 use Prim.Native.Nat.{_-_}
-use Rattle.round.specs.Rows.{lifts}
-use Rattle.round.proofs.Loops.{Gathered, gather-none, gather-turn, gather-end}
+use Rattle.round.specs.Rows.{rowLifts}
+use Rattle.round.proofs.Loops.{BlockGathered, gather-none, gather-turn, gather-end}
 use Rattle.round.proofs.picking.gathered.Statement.{statement}
 use Rattle.round.proofs.picking.gathered.Tie as tie
 
 abbrev Inv-loop : tie.InvT-loop
-Inv-loop rows a e block₀ i₀ block i = Gathered (lifts rows) block a e i
+Inv-loop rows a e block₀ i₀ block i = BlockGathered (rowLifts rows) block a e i
 
 abbrev μ-loop : tie.MeasureT-loop
 μ-loop rows a e block₀ i₀ block i = e - i

@@ -42,11 +42,11 @@ use denote.Triple.Table.{entered, cited}
 use denote.Triple.Walked.{says, needs}
 use Rattle.probability.specs.Interval.{pick as pickOf}
 use Rattle.round.specs.Round.{liftAt, growth}
-use Rattle.round.specs.Rows.{lift, scaled, Room as WeightsRoom, LiftRoom}
+use Rattle.round.specs.Rows.{liftOfMeasures, scaled, WeightsFit as WeightsRoom, LiftWeightsFit}
 use Rattle.round.specs.declared.Lift.{Lift}
 use Rattle.round.specs.declared.Scale.{Scale}
 use Rattle.walking.proofs.Walking.{val, sets, calls-said, opens-elem, shuts-elem, on-bool, less, not-less, goes-in, passes-by, freed, ends-plain, Outside, Ending, Walk, meets-plain}
-use Rattle.round.proofs.Loops.{Sought, grows, pick-none, seek-turn, seek-here, seek-end, lift-room}
+use Rattle.round.proofs.Loops.{PickSought, grows, pick-none, seek-turn, seek-here, seek-end, lift-room}
 use Rattle.round.proofs.Lift as T
 use Rattle.round.proofs.Lift.Laws as T′
 use Rattle.round.proofs.Scale as S
@@ -118,7 +118,7 @@ module _ {M : Type 1} (𝓤 : URA M) (H : Heap 𝓤) (A : Atoms 𝓤) (W : Given
     abbrev to : GrowthOf 𝓤 H A mem run .Ghost
     to = ((tt, tt, tt, (sc, (l, tt)), (sv ∷ [], (T′.lowered l ∷ [], tt))), tt)
 
-    asks : Is S.the-row sc (sv ∷ []) → Is T.the-row l (T′.lowered l ∷ []) → LiftRoom sc l → ent 𝓤 (emp 𝓤) (GrowthOf 𝓤 H A mem run .pre to)
+    asks : Is S.the-row sc (sv ∷ []) → Is T.the-row l (T′.lowered l ∷ []) → LiftWeightsFit sc l → ent 𝓤 (emp 𝓤) (GrowthOf 𝓤 H A mem run .pre to)
     asks is-s is-l room =
         qed W [] ∵ says ! room $ nothing ! $ frame ! $ nothing ! $ owned ! T.the-row (Is T.the-row) (LL.makes T.the-type T′.the-plain 𝓤 H A) l _ is-l $ fjoin ! $
         owned ! S.the-row (Is S.the-row) (LL.makes S.the-type S′.the-plain 𝓤 H A) sc _ is-s $ fjoin ! $ done !
@@ -129,7 +129,7 @@ module _ {M : Type 1} (𝓤 : URA M) (H : Heap 𝓤) (A : Atoms 𝓤) (W : Given
     left : ℕ
     within : i ≤ n
     fits : left < 2 ^ 64
-    seeks : Sought (grows sc) ys sought left i
+    seeks : PickSought (grows sc) ys sought left i
 
   abbrev elem : State → Lift
   elem x = liftAt ys (x .i)
@@ -175,9 +175,9 @@ module _ {M : Type 1} (𝓤 : URA M) (H : Heap 𝓤) (A : Atoms 𝓤) (W : Given
         sets ! (bin ! (load ! (from ! (fld ! refl (stop !))) (look-in ! 20 (sub ! 0 refl (whole !)))) (val ! (look ! 8 refl)) tt) (init ! 4 refl (tt, tt)) $
         rewrite ! 4 (λ (p : ℕ). ‵ (fat fullShare tyPtr l₉ 0 (vptr b p))) (sym (place-is 24 o (x .i))) refl $
         -- the lift is taken out, copied and put back
-        move ! (1 ∷ 0 ∷ []) $ opens-elem ! tt T.the-type T′.the-laws T′.the-copy ys (x .i) (lift 0 0 0) b o (less (x .i) n t) (λ q′ g.
+        move ! (1 ∷ 0 ∷ []) $ opens-elem ! tt T.the-type T′.the-laws T′.the-copy ys (x .i) (liftOfMeasures 0 0 0) b o (less (x .i) n t) (λ q′ g.
         sets ! (of-opd ! (load ! (from ! (hop ! (look ! 7 refl) (stop !))) (look-raw ! 0 refl))) (init ! 5 refl (LL.lawful T.the-type T′.the-laws 𝓤 H A W .typed (elem x) _ g .0)) $
-        shuts-elem ! tt T.the-type T′.the-laws q′ ys (x .i) (lift 0 0 0) b o (less (x .i) n t) $
+        shuts-elem ! tt T.the-type T′.the-laws q′ ys (x .i) (liftOfMeasures 0 0 0) b o (less (x .i) n t) $
         -- `growth_of` is called on it
         use0 W (raw (GrowthOf 𝓤 H A mem run .pre (to (elem x)))) (asks (elem x) is-s g (lift-room room (less (x .i) n t))) $
         calls-said ! growth-of.ended (growth-of.clauses 𝓤 H A mem run) (fmOf 𝓤 H (W .laws) 𝓣) (to (elem x)) (known (to (elem x))) (λ r. r ≡ grows sc (elem x)) (λ r ws. refl)

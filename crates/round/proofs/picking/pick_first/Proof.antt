@@ -39,7 +39,7 @@ use denote.Triple.Table.{entered, cited}
 use denote.Triple.Walked.{says, needs}
 use Rattle.probability.specs.Interval.{pick as pickOf}
 use Rattle.round.specs.Round.{growth}
-use Rattle.round.specs.Rows.{scaled, blockLength, Room as WeightsRoom}
+use Rattle.round.specs.Rows.{scaled, blockLength, WeightsFit as WeightsRoom}
 use Rattle.round.specs.declared.Lift.{Lift}
 use Rattle.round.specs.declared.Scale.{Scale}
 use Rattle.walking.proofs.Walking.{val, sets, calls-said, freed, ends-plain, Outside, Walk, meets-plain}

@@ -4,13 +4,13 @@ use Prim.Native.Nat.{_-_}
 use mathlib.Core.List.{map}
 use Rattle.probability.specs.Interval.{pick}
 use Rattle.round.specs.Round.{growth}
-use Rattle.round.specs.Rows.{lifts, scaled}
-use Rattle.round.proofs.Loops.{Sought, grows, pick-none, pick-end, block-less, block-from, block-inside, block-short, block-turn, block-fits, block-here, block-room}
+use Rattle.round.specs.Rows.{rowLifts, scaled}
+use Rattle.round.proofs.Loops.{PickSought, grows, pick-none, pick-end, block-less, block-from, block-inside, block-short, block-turn, block-fits, block-here, block-room}
 use Rattle.round.proofs.picking.pick_lift.Statement.{statement}
 use Rattle.round.proofs.picking.pick_lift.Tie as tie
 
 abbrev Inv-loop : tie.InvT-loop
-Inv-loop s rows q n left₀ i₀ left i = Sought (grows s) (lifts rows) (pick (map growth (map (scaled s) (lifts rows))) q) left i
+Inv-loop s rows q n left₀ i₀ left i = PickSought (grows s) (rowLifts rows) (pick (map growth (map (scaled s) (rowLifts rows))) q) left i
 
 abbrev μ-loop : tie.MeasureT-loop
 μ-loop s rows q n left₀ i₀ left i = n - i

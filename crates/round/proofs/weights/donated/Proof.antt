@@ -2,14 +2,14 @@
 use borrow.Author.Needs.{needs}
 use native.Mathlib.Nat.{le-of-eq}
 use Prim.Native.Nat.{_-_}
-use Rattle.round.specs.Round.{sent, U}
-use Rattle.round.specs.Rows.{lifts}
+use Rattle.round.specs.Round.{measureFrom, U}
+use Rattle.round.specs.Rows.{rowLifts}
 use Rattle.round.proofs.Loops.{Summed, came-none, sum-turn, sum-fits, sum-end}
 use Rattle.round.proofs.weights.donated.Statement.{statement}
 use Rattle.round.proofs.weights.donated.Tie as tie
 
 abbrev Inv-loop : tie.InvT-loop
-Inv-loop rows k n sum₀ i₀ sum i = Summed (sent k) (lifts rows) n (U k (lifts rows)) sum i
+Inv-loop rows k n sum₀ i₀ sum i = Summed (measureFrom k) (rowLifts rows) n (U k (rowLifts rows)) sum i
 
 abbrev μ-loop : tie.MeasureT-loop
 μ-loop rows k n sum₀ i₀ sum i = n - i

@@ -4,13 +4,13 @@ use Prim.Native.Nat.{_-_}
 use mathlib.Core.List.{map}
 use lib.Seq.{slice}
 use Rattle.round.specs.Round.{G}
-use Rattle.round.specs.Rows.{lifts, scaled}
+use Rattle.round.specs.Rows.{rowLifts, scaled}
 use Rattle.round.proofs.Loops.{Summed, grows, reach-none, sum-turn, sum-fits, sum-end, G-room, read-room}
 use Rattle.round.proofs.weights.growth_sum_between.Statement.{statement}
 use Rattle.round.proofs.weights.growth_sum_between.Tie as tie
 
 abbrev Inv-loop : tie.InvT-loop
-Inv-loop s rows a e sum₀ i₀ sum i = Summed (grows s) (lifts rows) e (G (map (scaled s) (slice a e (lifts rows)))) sum i
+Inv-loop s rows a e sum₀ i₀ sum i = Summed (grows s) (rowLifts rows) e (G (map (scaled s) (slice a e (rowLifts rows)))) sum i
 
 abbrev μ-loop : tie.MeasureT-loop
 μ-loop s rows a e sum₀ i₀ sum i = e - i

@@ -5,7 +5,7 @@ use Prim.Native.Nat.{ℕ}
 use mathlib.Core.Path.{_≡_, sym, ap, _∙_}
 use mathlib.Core.Bool.{true, cond}
 use Rattle.sheet.specs.Sheet.{kind}
-use Rattle.sheet.specs.Reading.{follows, misnumbered, isPlace, misplaced, uncountedNewcomer, miscounted, mismarked, fault}
+use Rattle.sheet.specs.Reading.{mayFollow, misnumbered, isPlace, misplaced, uncountedNewcomer, miscounted, mismarked, fault}
 use Rattle.sheet.specs.declared.faults.ScanState.{ScanState}
 use Rattle.sheet.proofs.Readings.{place-fault, other-fault}
 use Rattle.sheet.proofs.faults.judge.Statement.{statement}
@@ -22,7 +22,7 @@ abbrev from3 : ScanState → ℕ → ℕ
 from3 s w = cond (misnumbered s w) 3 (from5 s w)
 
 -- the word is in sequence, and whether it tells a place
-in-sequence : (c : tie.Else1) → let a = c .before .before .before .args in follows (a .s .kind) (kind (a .word)) ≡ true
+in-sequence : (c : tie.Else1) → let a = c .before .before .before .args in mayFollow (a .s .kind) (kind (a .word)) ≡ true
 in-sequence c = rw (← c .before .before .kind .ensures, ← c .before .follows .ensures) (not-false (c .before .follows .result) (c .if1 .left))
 
 tells : (c : tie.After-is-place) → c .is-place .result ≡ isPlace (kind (c .before .before .before .before .args .word))

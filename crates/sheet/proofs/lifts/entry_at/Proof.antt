@@ -1,6 +1,6 @@
 -- `sheet::entry_at` meets its contract: a lift's words tell what it is. Assumes nothing.
 use mathlib.Core.Path.{refl}
-use Rattle.sheet.proofs.lifts.Lifts.{entry-told}
+use Rattle.sheet.proofs.lifts.Lifts.{entry-read}
 use borrow.Author.Needs.{needs}
 use Rattle.sheet.proofs.lifts.entry_at.Statement.{statement}
 use Rattle.sheet.proofs.lifts.entry_at.Tie as tie
@@ -59,7 +59,7 @@ shared-slice-read-t19 c = search needs
 returns : tie.Need-returns
 returns c =
     let b = c .before .before .before .before .before .before .before .before .before .before .before in
-    entry-told (b .args .sheet .now) (b .args .i) (c .before .before .before .before .before .payload .ensures) (c .before .before .before .before .round .ensures) (c .before .before .before .before .before .before .before .measure .ensures) (c .before .before .before .round2 .ensures) (c .before .before .measure2 .ensures) (c .before .filled-in .ensures) (b .pre .1) refl
+    entry-read (b .args .sheet .now) (b .args .i) (c .before .before .before .before .before .payload .ensures) (c .before .before .before .before .round .ensures) (c .before .before .before .before .before .before .before .measure .ensures) (c .before .before .before .round2 .ensures) (c .before .before .measure2 .ensures) (c .before .filled-in .ensures) (b .pre .1) refl
 
 pub entry-at-spec : {M : Type 1} → statement M
 entry-at-spec =

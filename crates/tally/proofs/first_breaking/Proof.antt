@@ -1,13 +1,13 @@
--- `tally::first` meets its contract: the first round that breaks the rule is the first from r up. Assumes nothing.
+-- `tally::first_breaking` meets its contract: the first round that breaks the rule is the first from r up. Assumes nothing.
 use Prim.Native.Nat.{_+_, _-_}
 use lib.ListN.{getD}
 use Rattle.sheet.specs.Sheet.{mostRounds}
 use Rattle.tally.specs.Verdict.{breaks}
-use Rattle.tally.proofs.Those.{Sought, sought-none, sought-turn}
+use Rattle.tally.proofs.Ranges.{Sought, sought-none, sought-turn}
 use Rattle.tally.proofs.Searches.{found, missed}
 use borrow.Author.Needs.{needs}
-use Rattle.tally.proofs.first.Statement.{statement}
-use Rattle.tally.proofs.first.Tie as tie
+use Rattle.tally.proofs.first_breaking.Statement.{statement}
+use Rattle.tally.proofs.first_breaking.Tie as tie
 
 abbrev Inv-loop : tie.InvT-loop
 Inv-loop rule lifts numbers r₀ r = Sought (λ t. breaks rule (getD lifts t 0) (getD numbers t 0)) 1 r
@@ -48,8 +48,8 @@ loop-again c = search sought-turn
 returns-2 : tie.Need-returns-2 Inv-loop μ-loop
 returns-2 c = search missed
 
-pub first-spec : {M : Type 1} → statement M
-first-spec =
+pub first-breaking-spec : {M : Type 1} → statement M
+first-breaking-spec =
     tie.close
     (tie.spec
     Inv-loop

@@ -1,11 +1,11 @@
--- `counts::cut` meets its contract: beyond the numbers nothing is cut off in front. Assumes nothing.
+-- `counts::cut_at` meets its contract: beyond the numbers nothing is cut off in front. Assumes nothing.
 use Rattle.counts.proofs.Finding.{cut-past, cut-inside, cut-le}
 use Prim.Native.Nat.{_+_}
 use lib.ListN.{getD}
 use native.Mathlib.Omega.{arith}
 use borrow.Author.Needs.{needs}
-use Rattle.counts.proofs.lines.cut.Statement.{statement}
-use Rattle.counts.proofs.lines.cut.Tie as tie
+use Rattle.counts.proofs.lines.cut_at.Statement.{statement}
+use Rattle.counts.proofs.lines.cut_at.Tie as tie
 
 add-middle : tie.Need-add-middle
 add-middle c = search needs
@@ -31,8 +31,8 @@ add-result c = omega (arith, c .before .before .before .before .pre .1 .0, cut-l
 returns-2 : tie.Need-returns-2
 returns-2 c = cut-inside (c .before .before .before .before .args .numbers .now) (c .before .before .before .before .args .low) (c .before .before .before .before .args .half) (c .before .before .before .before .args .n) (c .before .before .if1 .left) (c .at-most .ensures)
 
-pub cut-spec : {M : Type 1} → statement M
-cut-spec =
+pub cut-at-spec : {M : Type 1} → statement M
+cut-at-spec =
     tie.close
     (tie.spec
     add-middle
