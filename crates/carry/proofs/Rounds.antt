@@ -88,7 +88,7 @@ module _ (held : Lift → Bool) where
       go false e true q ih = rw q (ap (λ us. carried held l ∷ us) ih)
       go false e false q ih = rw q ih
 
--- ---- what a sheet can tell
+-- ---- well-formed lifts
 
 -- numbers above one are above a smaller one
 listed-lower : {m n : ℕ} (ls : List Lift) → m ≤ n → AllWellFormed n ls → AllWellFormed m ls
@@ -105,7 +105,7 @@ filled-small m b h k = go (eqb b notCounted) refl k
     go true e k = h
     go false e k = rw e at k
 
--- lifts carried on can be told, if those held measure something
+-- lifts carried on are well-formed, if those held have a measure above 0
 pub listed-next : (held : Lift → Bool) (n : ℕ) (ls : List Lift) → ((l : Lift) → List·Memᴰ l ls → held l ≡ true → 0 < placeAt New l .measure) → AllWellFormed n ls
     → AllWellFormed n (carriedOn held ls)
 unfolding AllWellFormed remaining

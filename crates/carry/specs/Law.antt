@@ -30,7 +30,7 @@ pub record Carries (ls : List Lift) (cs : List Choice) : Type 0 where
   pub writes : (ws : List ℕ) (start : ℕ) (out : List ℕ) → start ≤ length ws → 2 * length cs ≤ length out
       → output (nextSheet cs ls) ws start out ≡ writtenPairs (map again cs) out
 
--- so it is for all random words, every start and the choices that they give
+-- this holds for all random words, every start, and the choices that they give
 abbrev pub CarriesAll : List Lift → Type 0
 CarriesAll ls = (ws : List ℕ) (start next : ℕ) (cs : List Choice) → panel ls ws start ≡ chosen cs next → Carries ls cs
 

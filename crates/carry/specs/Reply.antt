@@ -16,7 +16,7 @@ ofLentNext ls rounds ws start room space =
     unlessLacking rounds (length ws) start room
     (cond (ltb space (wordsNeeded ls rounds)) (ofRefusal (numbered 17 (wordsNeeded ls rounds))) (ofPanel start (panel ls ws start)))
 
--- the reply to a sheet, random words, a start position, an output of so many words and a lent sheet of so many
+-- the reply to a sheet, random words, a start position, an output of `room` words and a lent sheet of `space` words
 unfoldable pub replyNext : List ℕ → List ℕ → (start room space : ℕ) → Reply
 replyNext sheet ws start room space = ofVerdict (verdict sheet) (λ rounds. ofLentNext (lifts sheet) rounds ws start room space)
 

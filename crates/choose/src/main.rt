@@ -13,10 +13,10 @@ use sheet::Sheet;
 // How many bytes of a sheet decide its text.
 const SHEET_BYTES: usize = 4 * Sheet::LONGEST;
 
-// Where counting stops, since a piece more might not fit; no file is as long.
+// Where counting stops, since one piece more might not fit; no file is that long.
 const MOST_COUNTED: usize = usize::MAX - 65536;
 
-// How often a read is tried that signals interrupt.
+// How often a read is tried again when signals interrupt it.
 const MOST_TRIES: usize = 1000;
 
 fn main() {
@@ -29,7 +29,7 @@ fn main() {
 
 // ---- the files
 
-// What came of reading: so many bytes, none at the end of the file; or a failure.
+// What a read gave: a number of bytes, 0 at the end of the file; or a failure.
 enum Got {
     Bytes(usize),
     Failed,

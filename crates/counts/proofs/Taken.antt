@@ -1,5 +1,5 @@
--- A text that is taken: no line is faulty, so each names a lift of its own; the result's numbers have room in its words, so they tell the
--- lifts that they were written from.
+-- A text that is taken: no line is faulty, so each names a lift of its own; the result's numbers have room in its words, so they read back
+-- as the lifts that they were written from.
 use Prim.Native.Nat.{ℕ, zero, suc, _+_, _<_}
 use mathlib.Core.Path.{_≡_, refl, sym, _∙_}
 use mathlib.Core.Bool.{Bool, true, false, cond, not, _&&_, _||_, true≢false}

@@ -1,25 +1,29 @@
 -- The ways out of the call: the sheet lent, the lines, the result.
 use Prim.Native.Nat.{ℕ, zero, suc, _+_, _^_, _≤_, _<_}
-use mathlib.Core.Path.{_≡_, refl, sym, ap, ap₂, _∙_}
+use mathlib.Core.Path.{_≡_, refl, sym, ap, ap₂, subst, _∙_}
+use mathlib.Core.Bool.{Bool, true, false, cond, not, _&&_}
 use mathlib.Core.List.{List, [], _∷_}
 use native.Mathlib.Omega.{arith}
 use lib.ListN.{length, getD, take, replicate, length-map}
 use Rattle.sheet.specs.Sheet.{largestSum, Lift, lifts, sheetOf}
-use Rattle.reply.specs.Reply.{Reply, replied, ofRefusal}
-use Rattle.sheet.specs.Reading.{faulty, ofWords, Legible, readingOf}
-use Rattle.tally.specs.Verdict.{refused, fits, unlessFaulty, verdict, verdictOf as saidOf, ofVerdict}
+use Rattle.reply.specs.Reply.{numbered, Reply, replied, ofRefusal, unlessRefused}
+use Rattle.reply.proofs.Replies.{left}
+use Rattle.probability.specs.Among.{among}
+use Rattle.sheet.specs.Reading.{Reading, faulty, ofWords, Legible, readingOf}
+use Rattle.tally.specs.Verdict.{refused, fits, unlessFaulty, verdict, verdictOf, ofVerdict}
 use Rattle.reply.specs.Refusal.{refusalOf}
 use Rattle.sheet.specs.Law.{AllWellFormed}
 use Rattle.sheet.proofs.Trips.{read-theorem}
-use Rattle.sheet.proofs.Legibility.{legible-words, words-legible}
+use Rattle.sheet.proofs.Legibility.{legible-words, words-legible, AboveWord, above-of-words}
+use Rattle.tally.proofs.Verdicts.{decided}
 use Rattle.sheet.specs.declared.Sheet.{Sheet}
 use Rattle.reply.specs.declared.Refusal.{Refusal}
 use Rattle.tally.specs.declared.Checked.{Checked}
 use Rattle.tally.specs.declared.Checked.the-variants.{Refused, Fits}
 use Rattle.sheet.specs.declared.Judged.{Judged}
 use Rattle.sheet.specs.declared.Judged.the-variants.{Faulty, Sound}
-use Rattle.counts.specs.Text.{lines}
-use Rattle.counts.specs.Counts.{numbersOf, ofLines, renewed, countsVerdict, outputOf, countsReply, countsOutput}
+use Rattle.counts.specs.Text.{lines, CountLine, counted, malformed, countLine}
+use Rattle.counts.specs.Counts.{atLine, linesFrom, numbersOf, ofLines, renewed, countsVerdict, countsReply, countsOutput}
 use Rattle.counts.specs.Scan.{RisingAbove, LiftNumbers, slot, slots, AllTaken, LinesAnswered, liftsWith, sheetWith}
 use Rattle.counts.specs.declared.lines.Lines.{Lines}
 use Rattle.counts.specs.declared.lines.Lines.the-variants.{Faulty as FaultyLine, All}
@@ -54,14 +58,30 @@ numbers {ws} l =
 
 -- ---- the result
 
-module _ (n : ℕ) (old ws : List ℕ) {r : Checked} (h : saidOf r ≡ verdict ws) where
-  pub finish-refused : {x : Refusal} → r ≡ Refused x → (ofRefusal (refusalOf x) ≡ ofVerdict (verdict ws) (λ _. replied n 0)) × (old ≡ outputOf old ws (verdict ws))
-  finish-refused {x} e = let v : refused (refusalOf x) ≡ verdict ws = sym (ap saidOf e) ∙ h in (rw (← v), rw (← v))
+module _ (n : ℕ) (old ws : List ℕ) {r : Checked} (h : verdictOf r ≡ verdict ws) where
+  pub finish-refused : {x : Refusal} → r ≡ Refused x → (ofRefusal (refusalOf x) ≡ ofVerdict (verdict ws) (λ _. replied n 0)) × (old ≡ unlessRefused (ofVerdict (verdict ws) (λ _. replied n 0)) old ws)
+  finish-refused {x} e =
+      let v : refused (refusalOf x) ≡ verdict ws = sym (ap verdictOf e) ∙ h in
+      left old ws (λ z. omega (arith, decided ws .above (refusalOf x) (sym v), z)) (rw (← v))
 
-  pub finish-fits : {out : List ℕ} {s : Sheet} → r ≡ Fits s → out ≡ ws → (replied n 0 ≡ ofVerdict (verdict ws) (λ _. replied n 0)) × (out ≡ outputOf old ws (verdict ws))
-  finish-fits {out} {s} e q = let v : fits (s .lifts) (s .rounds) ≡ verdict ws = sym (ap saidOf e) ∙ h in (rw (← v), rw (← v) q)
+  pub finish-fits : {out : List ℕ} {s : Sheet} → r ≡ Fits s → out ≡ ws → (replied n 0 ≡ ofVerdict (verdict ws) (λ _. replied n 0)) × (out ≡ unlessRefused (ofVerdict (verdict ws) (λ _. replied n 0)) old ws)
+  finish-fits {out} {s} e q = let v : fits (s .lifts) (s .rounds) ≡ verdict ws = sym (ap verdictOf e) ∙ h in (rw (← v), rw (← v) q)
 
 -- ---- the lines
+
+-- no refusal of a line has number 0
+above-line : (e : CountLine) (i : ℕ) (ns had : List ℕ) (next : ℕ → Reading) → ((n : ℕ) → AboveWord (next n)) → AboveWord (atLine e i ns had next)
+above-line malformed i ns had next h = omega arith
+above-line (counted n c) i ns had next h = go (among n ns && not (among n had))
+  where
+    go : (t : Bool) → AboveWord (cond t (next n) (faulty (numbered 15 i)))
+    go true = h n
+    go false = omega arith
+
+above-lines : (ns had : List ℕ) (i : ℕ) (xs : List (List ℕ)) → AboveWord (linesFrom ns had i xs)
+unfolding linesFrom
+above-lines ns had i [] = tt
+above-lines ns had i (x ∷ xs) = above-line (countLine x) i ns had _ (λ n. above-lines ns (n ∷ had) (i + 1) xs)
 
 -- the answer behind a legible sheet's words
 behind-words : (ws text : List ℕ) → Legible ws → unlessFaulty (ofLines (lifts ws) (lines text)) (verdict (renewed ws text)) ≡ countsVerdict ws text
@@ -70,7 +90,10 @@ behind-words ws text l = ap (λ r. unlessFaulty r (unlessFaulty (ofLines (lifts 
 
 module _ (ws text ns measures : List ℕ) (l : Legible ws) {r : Lines} (e : ns ≡ numbersOf (lifts ws)) (g : LinesAnswered ns (lines text) r measures) where
   pub at-line : {x : Refusal} → r ≡ FaultyLine x → (ofRefusal (refusalOf x) ≡ countsReply ws text) × (ws ≡ countsOutput ws text)
-  at-line {x} q = let t = rw (q, e) at g in let w = rw t at (behind-words ws text l) in (rw (← w), rw (← w))
+  at-line {x} q =
+      let t = rw (q, e) at g in
+      let w = rw t at (behind-words ws text l) in
+      left ws (renewed ws text) (λ z. omega (arith, subst AboveWord t (above-lines (numbersOf (lifts ws)) [] 1 (lines text)), z)) (rw (← w))
 
   module _ {n : ℕ} (q : r ≡ All n) where
     all-taken : AllTaken ns (lines text) n measures
@@ -82,9 +105,11 @@ module _ (ws text ns measures : List ℕ) (l : Legible ws) {r : Lines} (e : ns �
     answered : verdict (sheetWith ws measures) ≡ countsVerdict ws text
     answered = ap verdict sheet-with ∙ (rw (rw e at (all-taken .sound)) at (behind-words ws text l))
 
-    pub at-end : {y : Reply} {out : List ℕ} → (y ≡ ofVerdict (verdict (sheetWith ws measures)) (λ _. replied n 0)) × (out ≡ outputOf ws (sheetWith ws measures) (verdict (sheetWith ws measures)))
+    pub at-end : {y : Reply} {out : List ℕ} → (y ≡ ofVerdict (verdict (sheetWith ws measures)) (λ _. replied n 0)) × (out ≡ unlessRefused (ofVerdict (verdict (sheetWith ws measures)) (λ _. replied n 0)) ws (sheetWith ws measures))
         → (y ≡ countsReply ws text) × (out ≡ countsOutput ws text)
-    at-end (a, b) = (a ∙ ap₂ (λ k v. ofVerdict v (λ _. replied k 0)) (all-taken .many) answered, b ∙ ap₂ (outputOf ws) sheet-with answered)
+    at-end (a, b) =
+        let e = ap₂ (λ k v. ofVerdict v (λ _. replied k 0)) (all-taken .many) answered in
+        (a ∙ e, b ∙ ap₂ (λ y us. unlessRefused y ws us) e sheet-with)
 
     pub end-long : length measures ≡ length (lifts ws)
     end-long = ap length (all-taken .filled) ∙ length-map ns (slot (lines text)) ∙ ap length e ∙ length-map (lifts ws) (λ l. l .number)
@@ -102,7 +127,9 @@ module _ (ws text ns measures : List ℕ) (l : Legible ws) {r : Lines} (e : ns �
 module _ (ws text : List ℕ) {r : Judged} (h : readingOf r ≡ ofWords ws) where
   pub at-word : {x : Refusal} → r ≡ Faulty x → (ofRefusal (refusalOf x) ≡ countsReply ws text) × (ws ≡ countsOutput ws text)
   unfolding countsVerdict
-  at-word {x} e = let v : faulty (refusalOf x) ≡ ofWords ws = sym (ap readingOf e) ∙ h in (rw (← v), rw (← v))
+  at-word {x} e =
+      let v : faulty (refusalOf x) ≡ ofWords ws = sym (ap readingOf e) ∙ h in
+      left ws (renewed ws text) (λ z. omega (arith, subst AboveWord (sym v) (above-of-words ws), z)) (rw (← v))
 
   pub at-legible : r ≡ Sound → Legible ws
   at-legible e = legible-words (sym (sym (ap readingOf e) ∙ h))

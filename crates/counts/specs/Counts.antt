@@ -7,9 +7,9 @@ use lib.Dec.{eqb}
 use lib.ListN.{length}
 use Rattle.probability.specs.Among.{among}
 use Rattle.sheet.specs.Sheet.{Lift, lifts, sheetOf}
-use Rattle.reply.specs.Reply.{numbered, Reply, replied}
+use Rattle.reply.specs.Reply.{numbered, Reply, replied, unlessRefused}
 use Rattle.sheet.specs.Reading.{Reading, faulty, sound, ofWords}
-use Rattle.tally.specs.Verdict.{Verdict, refused, fits, unlessFaulty, verdict, ofVerdict}
+use Rattle.tally.specs.Verdict.{Verdict, unlessFaulty, verdict, ofVerdict}
 use Rattle.counts.specs.Text.{lines, CountLine, counted, malformed, countLine}
 
 -- ---- the lines one by one
@@ -42,12 +42,12 @@ hundreds c = (c + 99) / 100
 abbrev pub remeasured : Lift → ℕ → Lift
 remeasured l m = record { number = l .number; old = l .old; new = record { round = l .new .round; measure = m }; held = l .held }
 
--- "the lift's new measure becomes the count divided by 100, rounded up": that of lift n, if the line is the lift's, else another
+-- "the lift's new measure becomes the count divided by 100, rounded up": if the line names lift n, else the measure that other lines give it
 abbrev pub measureBy : CountLine → ℕ → Option ℕ → Option ℕ
 measureBy (counted m c) n other = cond (eqb m n) (some (hundreds c)) other
 measureBy malformed n other = other
 
--- the new measure that the lines give lift n, if one is the lift's
+-- the new measure that the lines give lift n, if one names it
 unfoldable pub measureFor : List (List ℕ) → ℕ → Option ℕ
 measureFor [] n = none
 measureFor (x ∷ xs) n = measureBy (countLine x) n (measureFor xs n)
@@ -72,16 +72,11 @@ countsVerdict sheet text = unlessFaulty (ofWords sheet) (unlessFaulty (ofLines (
 
 -- ---- the reply and the sheet at the end
 
--- "Any refusal writes nothing."
-abbrev pub outputOf : List ℕ → List ℕ → Verdict → List ℕ
-outputOf before after (refused x) = before
-outputOf before after (fits a b) = after
-
 -- the reply to a sheet and a text: "a call that chooses nothing and names no other answer replies 0, how many lines it took .., and 0 words
 -- read"
 abbrev pub countsReply : List ℕ → List ℕ → Reply
 countsReply sheet text = ofVerdict (countsVerdict sheet text) (λ _. replied (length (lines text)) 0)
 
--- the sheet after the call
+-- the sheet after the call: "Any refusal writes nothing."
 abbrev pub countsOutput : List ℕ → List ℕ → List ℕ
-countsOutput sheet text = outputOf sheet (renewed sheet text) (countsVerdict sheet text)
+countsOutput sheet text = unlessRefused (countsReply sheet text) sheet (renewed sheet text)

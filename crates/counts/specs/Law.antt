@@ -1,4 +1,4 @@
--- What is proved of a text that is taken: the sheet then fits, and tells the same lifts with the counts of the lines in.
+-- What is proved of a text that is taken: the sheet then fits, and has the same lifts with the counts of the lines.
 use Prim.Native.Nat.{ℕ, _<_}
 use mathlib.Core.Path.{_≡_}
 use mathlib.Core.Bool.{true}
@@ -12,8 +12,8 @@ use Rattle.counts.specs.Text.{lines, counted, countLine}
 use Rattle.probability.specs.Among.{among}
 use Rattle.counts.specs.Counts.{numbersOf, hundreds, remeasured, measured, renewed, countsVerdict}
 
--- a line that is taken, among all lines, into lifts of these numbers: it names one of them, whose new measure is its count and that of no
--- other line
+-- a line that is taken, among all lines, for lifts of these numbers: it names one of them, and this lift gets its new measure from this
+-- line and from no other
 pub record TakenLine (ns : List ℕ) (xs : List (List ℕ)) (x : List ℕ) : Type 0 where
   pub lift : ℕ
   pub count : ℕ
@@ -29,6 +29,6 @@ pub record TakenText (sheet text : List ℕ) : Type 0 where
   pub back : lifts (renewed sheet text) ≡ map (measured (lines text)) (lifts sheet)
   pub each : (i : ℕ) → i < length (lines text) → TakenLine (numbersOf (lifts sheet)) (lines text) (getD (lines text) i [])
 
--- so it is whenever a text is not refused
+-- this holds whenever a text is not refused
 abbrev pub Takes : List ℕ → List ℕ → Type 0
 Takes sheet text = (a b : ℕ) → countsVerdict sheet text ≡ fits a b → TakenText sheet text

@@ -31,7 +31,7 @@ cap = 268435456
 abbrev pub clamp : ℕ → ℕ
 clamp v = cond (ltb cap v) cap v
 
--- how many digits begin some bytes, and those digits
+-- how many bytes at the beginning are digits, and these digits
 unfoldable pub span : List ℕ → ℕ
 span [] = 0
 span (b ∷ bs) = cond (isDigit b) (suc (span bs)) 0
@@ -70,7 +70,7 @@ lineAt text i = lineOf (countLine (firstLine (drop i text))) (i + extent (drop i
 
 -- ---- lifts
 
--- numbers that rise, from above a number
+-- numbers that rise, all above a number
 unfoldable pub RisingAbove : ℕ → List ℕ → Type 0
 RisingAbove n [] = Unit {0}
 RisingAbove n (m ∷ ms) = (n < m) × RisingAbove m ms
@@ -81,11 +81,11 @@ pub record LiftNumbers (ns : List ℕ) : Type 0 where
   pub few : length ns ≤ mostLifts
   pub small : (k : ℕ) → getD ns k 0 < 2 ^ 32
 
--- where the part that may have a number begins, once the part from low up is cut behind so many
+-- where the part that may hold a number begins, once the part from `low` on is cut after `half` numbers
 abbrev pub cutAt : List ℕ → ℕ → ℕ → ℕ → ℕ
 cutAt ns low half n = cond (ltb (low + half) (length ns) && leb (getD ns (low + half) 0) n) (low + half) low
 
--- where a number stands in a list, if it does
+-- whether and where a number stands in a list
 abbrev pub Located : List ℕ → ℕ → Found → Type 0
 Located ns n (At k) = (k < length ns) × (getD ns k 0 ≡ n)
 Located ns n Nothing = among n ns ≡ false
@@ -108,7 +108,7 @@ pub record AllTaken (ns : List ℕ) (xs : List (List ℕ)) (n : ℕ) (measures :
   pub many : n ≡ length xs
   pub filled : measures ≡ slots ns xs
 
--- what the answer to the lines says
+-- the answer to the lines, with the slots that they leave
 abbrev pub LinesAnswered : List ℕ → List (List ℕ) → Lines → List ℕ → Type 0
 LinesAnswered ns xs (Faulty x) measures = linesFrom ns [] 1 xs ≡ faulty (refusalOf x)
 LinesAnswered ns xs (All n) measures = AllTaken ns xs n measures

@@ -17,7 +17,7 @@ CR = 13
 abbrev pub comma : ℕ
 comma = 44
 
--- a byte before the first line's others
+-- a byte put before the first line
 abbrev pub ahead : ℕ → List (List ℕ) → List (List ℕ)
 ahead b [] = (b ∷ []) ∷ []
 ahead b (l ∷ ls) = (b ∷ l) ∷ ls
@@ -34,7 +34,7 @@ lines (b ∷ bs) = cond (eqb b LF) ([] ∷ lines bs) (cond (endingCR b bs) (line
 
 -- ---- fields
 
--- the field before the first comma of a line, and what is behind that comma
+-- the part of a line before its first comma, and the part behind it
 unfoldable pub beforeComma : List ℕ → List ℕ
 beforeComma [] = []
 beforeComma (b ∷ bs) = cond (eqb b comma) [] (b ∷ beforeComma bs)
@@ -53,7 +53,7 @@ unfoldable pub allDigits : List ℕ → Bool
 allDigits [] = true
 allDigits (b ∷ bs) = isDigit b && allDigits bs
 
--- the number that decimal digits write, behind a number v and alone
+-- the number that decimal digits write after the digits of a number v; and by themselves
 unfoldable pub valueFrom : ℕ → List ℕ → ℕ
 valueFrom v [] = v
 valueFrom v (b ∷ bs) = valueFrom (v * 10 + (b - 48)) bs
@@ -65,7 +65,7 @@ abbrev pub empty : List ℕ → Bool
 empty [] = true
 empty (b ∷ bs) = false
 
--- one decimal digit or more, "leading zeros allowed", that write a number up to a limit
+-- one decimal digit or more, "leading zeros allowed", of a number up to a limit
 abbrev pub isNumber : ℕ → List ℕ → Bool
 isNumber limit bs = not (empty bs) && (allDigits bs && leb (value bs) limit)
 

@@ -20,7 +20,7 @@ bytes (c ▸ s) = code c ∷ bytes s
 abbrev case : List ℕ → String → Reply → List ℕ → Bool
 case ws t r us = sameReply (countsReply ws (bytes t)) r && same (countsOutput ws (bytes t)) us
 
--- so many lines taken, and the sheet then
+-- n lines taken, and the sheet after it
 abbrev taken : List ℕ → String → ℕ → List ℕ → Bool
 taken ws t n us = case ws t (numbers 0 n 0) us
 

@@ -2,12 +2,12 @@
 ghost use mathlib.Core.Path.{_≡_};
 ghost use Prim.Native.Nat.{ℕ, _+_, _≤_};
 ghost use lib.ListN.{length, getD, replicate};
-ghost use Rattle.reply.specs.Reply.{replied};
+ghost use Rattle.reply.specs.Reply.{replied, unlessRefused};
 ghost use Rattle.reply.specs.Refusal.{replyOf};
 ghost use Rattle.sheet.specs.Sheet.{largestSum, lifts};
 ghost use Rattle.sheet.specs.Reading.{Legible};
 ghost use Rattle.tally.specs.Verdict.{verdict, verdictOf, ofVerdict};
-ghost use Rattle.counts.specs.Counts.{numbersOf, outputOf, countsReply, countsOutput};
+ghost use Rattle.counts.specs.Counts.{numbersOf, countsReply, countsOutput};
 ghost use Rattle.counts.specs.Law.{Takes};
 ghost use Rattle.counts.specs.Scan.{wordWith, sheetWith};
 use lines::Lines;
@@ -78,7 +78,7 @@ fn copy(from: &[u32], to: &mut [u32])
     }
 }
 
-// A legible sheet's words with the measures of the slots, and what is said of them.
+// A legible sheet's words with the measures of the slots, and the verdict on them.
 fn renewed(words: &mut [u32], sheet: &[u32], measures: &[u64]) -> Checked
     requires { ⌜ Legible (now sheet) ⌝ }
     requires { ⌜ length (now words) ≡ length (now sheet) ⌝ }
@@ -99,7 +99,7 @@ fn finish(sheet: &mut [u32], words: &mut [u32], measures: &[u64], lines: usize) 
     requires { ⌜ length (now measures) ≡ length (lifts (now sheet)) ⌝ }
     requires { ⌜ ((k : ℕ) → getD (now measures) k 0 ≤ largestSum + 1) ⌝ }
     ensures replied { λ r. ⌜ replyOf r ≡ ofVerdict (verdict (sheetWith (now (sheet .entry)) (now (measures .entry)))) (λ _. replied lines 0) ⌝ }
-    ensures written { λ _. ⌜ now (sheet .exit) ≡ outputOf (now (sheet .entry)) (sheetWith (now (sheet .entry)) (now (measures .entry))) (verdict (sheetWith (now (sheet .entry)) (now (measures .entry)))) ⌝ }
+    ensures written { λ _. ⌜ now (sheet .exit) ≡ unlessRefused (ofVerdict (verdict (sheetWith (now (sheet .entry)) (now (measures .entry)))) (λ _. replied lines 0)) (now (sheet .entry)) (sheetWith (now (sheet .entry)) (now (measures .entry))) ⌝ }
 {
     match renewed(words, sheet, measures) {
         Checked::Refused(x) => Answer::Refused(x),

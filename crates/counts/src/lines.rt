@@ -37,7 +37,7 @@ fn at_most(m: u64, n: u64) -> usize
     ((n + ((1 << 32) - m)) >> 32) as usize
 }
 
-// Where the part that may have a number begins, once it is cut behind so many.
+// Where the part that may hold a number begins, once the part from `low` on is cut after `half` numbers.
 fn cut_at(numbers: &[u64], low: usize, half: usize, n: u64) -> usize
     requires { ⌜ LiftNumbers (now numbers) ⌝ }
     requires { ⌜ low + half ≤ mostLifts ⌝ }
@@ -51,7 +51,7 @@ fn cut_at(numbers: &[u64], low: usize, half: usize, n: u64) -> usize
     low + half * at_most(numbers[middle], n)
 }
 
-// Where a number stands among rising numbers: the part that may have it is halved until one is left.
+// Where a number stands among rising numbers: the part that may hold it is halved until one is left.
 fn find(numbers: &[u64], n: u64) -> Found
     requires { ⌜ LiftNumbers (now numbers) ⌝ }
     requires { ⌜ n < 2 ^ 32 ⌝ }
@@ -73,7 +73,7 @@ fn find(numbers: &[u64], n: u64) -> Found
     Found::At(low)
 }
 
-// The lines one by one: a slot for each lift that has one, one more than its new measure.
+// The lines one by one: the slot of a lift that is named gets its new measure plus one.
 pub fn gather(text: &[u8], numbers: &[u64], measures: &mut [u64]) -> Lines
     requires { ⌜ LiftNumbers (now numbers) ⌝ }
     requires { ⌜ now measures ≡ replicate (length (now numbers)) 0 ⌝ }

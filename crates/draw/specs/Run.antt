@@ -12,12 +12,12 @@ pub data Run (A : Type 0) : Type 0 where
   finished : (values : List ℕ) → (result : A) → (next : ℕ) → Run A
   short : Run A
 
--- a run that first drew v
+-- a run with a first draw of v put before it
 abbrev pub extendRun : {A : Type 0} → ℕ → Run A → Run A
 extendRun v (finished vs a next) = finished (v ∷ vs) a next
 extendRun v short = short
 
--- after a draw, the run goes on from its value and the position behind it
+-- after a draw, the run continues with its value, from the position behind it
 abbrev pub follow : {A : Type 0} → Drawn → (ℕ → ℕ → Run A) → Run A
 follow (Value v next) k = extendRun v (k v next)
 follow Short k = short

@@ -102,7 +102,7 @@ pub extern "C" fn jengpilo_round_select(
     }
 }
 
-// `sheet::check`: the document's number, the place written; or 0, how many lifts and how many new rounds written.
+// `tally::check`: the document's number, the place written; or 0, how many lifts and how many new rounds written.
 #[no_mangle]
 pub extern "C" fn jengpilo_sheet_check(sheet: &[u32], place: &mut usize, rounds: &mut usize) -> u32
     ensures { λ r. ⌜ CheckReply (verdict (now (sheet .entry))) r (now (place .exit)) (now (rounds .entry)) (now (rounds .exit)) ⌝ }

@@ -6,8 +6,9 @@ use mathlib.Core.List.{List, []}
 use native.Mathlib.Omega.{arith}
 use lib.Dec.{ltb}
 use lib.ListN.{length}
-use borrow.Author.Tests.{ne-eqb, ltb-false, lt-ltb, le-ltb}
+use borrow.Author.Tests.{ltb-false, lt-ltb, le-ltb}
 use Rattle.sheet.specs.Sheet.{Lift, lifts}
+use Rattle.reply.proofs.Replies.{left}
 use Rattle.reply.specs.Reply.{Numbered, numbered, Reply, replied, ofRefusal, unlessRefused}
 use Rattle.tally.specs.Rounds.{inUse}
 use Rattle.tally.specs.Law.{Fit}
@@ -17,9 +18,10 @@ use Rattle.sheet.specs.Lift.{New}
 use Rattle.selection.specs.Choice.{Choice, Panel, chosen, short, panel, ofPanel, unlessLacking, ofLent, reply, writtenPairs, writtenPanel, output}
 use Rattle.selection.proofs.Steps.{Steps, steps, steps-count, steps-between}
 use Rattle.selection.proofs.Choices.{panel-rises}
-use Rattle.panel.specs.Choosing.{Gathers, Picked, pairs, withPairs, PairsFit, Answers}
+use Rattle.picks.specs.Choosing.{Gathers, Picked}
+use Rattle.panel.specs.Writing.{pairs, withPairs, PairsFit, Answers}
 use Rattle.reply.specs.Refusal.{replyOf}
-use Rattle.panel.specs.declared.Picks.{Picks}
+use Rattle.picks.specs.declared.Picks.{Picks}
 use Rattle.reply.specs.declared.Answer.{Answer}
 use Rattle.panel.proofs.Tabled.{tabled-each, pairs-tabled, length-written, written-behind}
 
@@ -87,11 +89,7 @@ module _ (ls : List Lift) (ws : List ℕ) (start : ℕ) (p : Picks) (d : Picked 
 
 -- ---- the ways out
 
--- a refusal leaves the output
-pub left : {y z : Reply} (out new : List ℕ) → (y .number ≡ 0 → ⊥) → y ≡ z → (y ≡ z) × (out ≡ unlessRefused z out new)
-left {y} out new h e = (e, rw (← e, ne-eqb (y .number) 0 h))
-
--- and so does a panel whose words ended
+-- a panel whose words ended leaves the output
 pub left-panel : (start : ℕ) (x : Panel) (out : List ℕ) → writtenPanel x out ≡ unlessRefused (ofPanel start x) out (writtenPanel x out)
 left-panel start (chosen cs next) out = refl
 left-panel start (short r) out = refl
@@ -108,7 +106,7 @@ module _ (n words start room : ℕ) where
     pub enough : (otherwise : Reply) → 2 * n ≤ room → otherwise ≡ unlessLacking n words start room otherwise
     enough otherwise h = rw (le-ltb words start a, le-ltb room (2 * n) h)
 
-  -- what lacks is told whatever follows
+  -- what is lacking is answered whatever follows
   pub lacks : (y otherwise : Reply) → y ≡ unlessLacking n words start room (replied 0 0) → (y .number ≡ 0 → ⊥) → y ≡ unlessLacking n words start room otherwise
   lacks y otherwise e h = e ∙ go (ltb words start) (ltb room (2 * n)) (λ q. h (ap (λ r. r .number) e ∙ q))
     where

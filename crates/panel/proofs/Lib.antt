@@ -1,5 +1,3 @@
-pub mod Rounds
-pub mod Choosing
 pub mod Tabled
 pub mod Pairs
 pub mod Answers

@@ -16,12 +16,14 @@ use Rattle.selection.specs.Choice.{Panel, chosen, short, panel, ofPanel, writte
 use Rattle.carry.specs.Next.{remaining, nextSheet, wordsNeeded}
 use Rattle.carry.specs.Reply.{ofLentNext, replyNext, outputNext, carriedTo, lentSheet}
 use Rattle.carry.proofs.Carrying.{carries}
-use Rattle.panel.specs.Choosing.{Picked, Answers, sheetBy, CarriesOn}
+use Rattle.picks.specs.Choosing.{Picked}
+use Rattle.panel.specs.Writing.{Answers, sheetBy, CarriesOn}
 use Rattle.reply.specs.Refusal.{replyOf}
-use Rattle.panel.specs.declared.Picks.{Picks}
+use Rattle.picks.specs.declared.Picks.{Picks}
 use Rattle.reply.specs.declared.Answer.{Answer}
 use Rattle.selection.proofs.Choices.{panel-rises}
-use Rattle.panel.proofs.Answers.{Done, done, ended, left, left-panel, enough}
+use Rattle.panel.proofs.Answers.{Done, done, ended, left-panel, enough}
+use Rattle.reply.proofs.Replies.{left}
 use Rattle.panel.proofs.Carried.{table-next}
 
 -- a refusal leaves both

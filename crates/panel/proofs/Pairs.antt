@@ -10,7 +10,7 @@ use borrow.Rule.Slice.PartMut.{putMid}
 use borrow.Author.Tests.{eq-eqb, ne-eqb}
 use Rattle.sheet.specs.Sheet.{mostRounds}
 use Rattle.selection.specs.Choice.{pair}
-use Rattle.panel.specs.Choosing.{pairsFrom, pairs, withPairs}
+use Rattle.panel.specs.Writing.{pairsFrom, pairs, withPairs}
 
 two-sets : (a b : ℕ) (l : List ℕ) → length l ≡ 2 → set (set l 0 a) 1 b ≡ a ∷ b ∷ []
 two-sets a b [] h = absurd (omega arith)

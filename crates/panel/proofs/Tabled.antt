@@ -13,7 +13,7 @@ use Rattle.round.specs.Choice.{outcome}
 use Rattle.sheet.specs.Sheet.{mostRounds}
 use Rattle.selection.specs.Choice.{Choice, byRound, pair, writtenPairs}
 use Rattle.selection.proofs.Choices.{Sound, Rises}
-use Rattle.panel.specs.Choosing.{pairsFrom, pairs}
+use Rattle.panel.specs.Writing.{pairsFrom, pairs}
 
 -- ---- what the tables hold
 

@@ -15,28 +15,19 @@ ghost use Rattle.selection.specs.Fair.{Fair};
 ghost use Rattle.carry.specs.Next.{remaining};
 ghost use Rattle.carry.specs.Reply.{ofLentNext, replyNext, outputNext, carriedTo, lentSheet};
 ghost use Rattle.carry.specs.Law.{CarriesAll};
-ghost use Rattle.panel.specs.Choosing.{sheetBy, CarriesOn};
+ghost use Rattle.panel.specs.Writing.{sheetBy, CarriesOn};
 use output::write_choices;
+use picks::Picks;
+use picks::select_all;
 use reply::Answer;
 use reply::Refusal;
-use select::select_all;
 use sheet::Sheet;
 use tally::Checked;
 use tally::Tallies;
 
 mod output;
-mod select;
 
-// The choices by round: the lift's number and the outcome, both 0 where there is none; and the next position; or the round in which the
-// words ended, 0 if they did not.
-struct Picks {
-    numbers: [u32; Sheet::TABLE],
-    outcomes: [u32; Sheet::TABLE],
-    next: usize,
-    short: usize,
-}
-
-// Refused because of the start position or the output, or else no choice yet.
+// Refused because of the start position or the output; done, with no choice yet, if neither applies.
 fn lacking(rounds: usize, words: usize, start: usize, room: usize) -> Answer
     requires { ⌜ rounds ≤ mostRounds ⌝ }
     ensures { λ r. ⌜ replyOf r ≡ unlessLacking rounds words start room (replied 0 0) ⌝ }
@@ -83,7 +74,7 @@ pub fn choose(sheet: &[u32], words: &[u64], start: usize, out: &mut [u32]) -> An
 
 // ---- with next quarter's sheet
 
-// Writes next quarter's sheet, unless the words ended: so many lifts remain in it.
+// Writes next quarter's sheet, with the `lifts` that remain, unless the words ended.
 fn write_next(sheet: &[u32], p: Picks, lifts: usize, next: &mut [u32])
     requires { ⌜ Legible (now sheet) ⌝ }
     requires { ⌜ lifts ≡ length (remaining (liftsOfSheet (now sheet))) ⌝ }

@@ -4,8 +4,8 @@ ghost use Prim.Native.Nat.{_^_, _≤_, _<_};
 ghost use lib.ListN.{length};
 ghost use Rattle.sheet.specs.Sheet.{mostRounds};
 ghost use Rattle.selection.specs.Choice.{pair};
-ghost use Rattle.panel.specs.Choosing.{PairsFit, withPairs, Answers};
-use crate::Picks;
+ghost use Rattle.panel.specs.Writing.{PairsFit, withPairs, Answers};
+use picks::Picks;
 use reply::Answer;
 use reply::Refusal;
 use sheet::Sheet;
@@ -46,8 +46,8 @@ fn write_pairs(numbers: &[u32; Sheet::TABLE], outcomes: &[u32; Sheet::TABLE], ou
     }
 }
 
-// Writes the choices of so many rounds and says how many there are and how many words were read; or the round in which the words ended,
-// with nothing written.
+// Writes the choices and answers how many there are and how many words were read; or writes nothing and answers in which round the words
+// ended.
 pub fn write_choices(p: Picks, rounds: usize, start: usize, out: &mut [u32]) -> Answer
     requires { ⌜ (p .short ≡ 0 → PairsFit (p .numbers) (p .outcomes) (length (now out))) ⌝ }
     requires { ⌜ (p .short ≡ 0 → start ≤ p .next) ⌝ }

@@ -1,4 +1,4 @@
--- Whether a number is among some.
+-- Membership of a number in a list, as a test.
 use Prim.Native.Nat.{ℕ}
 use mathlib.Core.Bool.{Bool, false, _||_}
 use mathlib.Core.List.{List, [], _∷_}

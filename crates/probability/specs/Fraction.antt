@@ -1,4 +1,4 @@
--- Fractions of natural numbers, compared multiplied out.
+-- Fractions of natural numbers: "Fractions are compared multiplied out, in whole numbers."
 use Prim.Native.Nat.{ℕ, _+_, _*_, _≤_, _<_}
 use mathlib.Core.Path.{_≡_}
 use mathlib.Core.List.{List, [], _∷_}
@@ -25,18 +25,18 @@ q ⊗ r = (q .num * r .num) // (q .den * r .den)
 abbrev pub sum : ℕ → (ℕ → Fraction) → Fraction
 sum n f = over _⊕_ (0 // 1) n f
 
--- f of each element of a list, added up
+-- the sum of f over the elements of a list
 unfoldable pub sumOver : {A : Type 0} → List A → (A → Fraction) → Fraction
 sumOver [] f = 0 // 1
 sumOver (x ∷ xs) f = f x ⊕ sumOver xs f
 
--- equal, multiplied out; that both denominators are above 0 is part of it
+-- equality by cross-multiplication; it requires both denominators to be above 0
 pub record _≈_ (q r : Fraction) : Type 0 where
   pub cross : q .num * r .den ≡ r .num * q .den
   pub left : 0 < q .den
   pub right : 0 < r .den
 
--- at most, multiplied out; that both denominators are above 0 is part of it
+-- "at most" by cross-multiplication; it requires both denominators to be above 0
 pub record _≲_ (q r : Fraction) : Type 0 where
   pub cross : q .num * r .den ≤ r .num * q .den
   pub left : 0 < q .den

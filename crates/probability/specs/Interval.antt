@@ -23,5 +23,5 @@ pub record Intervals (ws : List ℕ) : Type 0 where
   pub falls : (q : ℕ) → q < total ws → Falls ws q (pick ws q)
   -- and in no other
   pub unique : (q i : ℕ) → Falls ws q i → pick ws q ≡ i
-  -- each index is hit by exactly its weight of the positions below the total
+  -- of the positions below the total, each index is hit by exactly as many as its weight
   pub hits : (i : ℕ) → i < length ws → count (total ws) (λ q. eqb (pick ws q) i) ≡ getD ws i 0

@@ -5,17 +5,17 @@ use mathlib.Core.List.{List, [], _∷_, _++_, map}
 use Rattle.probability.specs.Sum.{over, indicator}
 use Rattle.probability.specs.Fraction.{Fraction, _//_, _⊗_, _≈_, _≲_, sum, sumOver}
 
--- a result, or a draw of one of the numbers below a bound, each as likely as another, and a plan for each of them
+-- a result, or a draw of a number below a bound, all values equally likely, with a plan for each value
 pub data Plan (A : Type 0) : Type 0 where
   done : A → Plan A
   draw : (bound : ℕ) → (ℕ → Plan A) → Plan A
 
--- one plan after another: the second depends on the first one's result
+-- one plan after another: the second is chosen by the result of the first
 unfoldable pub bind : {A B : Type 0} → Plan A → (A → Plan B) → Plan B
 bind (done a) k = k a
 bind (draw b f) k = draw b (λ v. bind (f v) k)
 
--- every draw has a value, and every result is such
+-- every draw has a value, and every result satisfies P
 unfoldable pub Every : {A : Type 0} → (A → Type 0) → Plan A → Type 0
 Every P (done a) = P a
 Every P (draw b k) = (0 < b) × ((v : ℕ) → v < b → Every P (k v))
@@ -36,7 +36,7 @@ pub record Path (A : Type 0) : Type 0 where
   pub bounds : ℕ
   pub result : A
 
--- a path that first draws v below b
+-- a path with a first draw of v below b put before it
 abbrev pub extendPath : {A : Type 0} → ℕ → ℕ → Path A → Path A
 extendPath b v p = record { values = v ∷ p .values; bounds = b * p .bounds; result = p .result }
 
@@ -45,16 +45,16 @@ unfoldable pub paths : {A : Type 0} → Plan A → List (Path A)
 paths (done a) = record { values = []; bounds = 1; result = a } ∷ []
 paths (draw b k) = over _++_ [] b (λ v. map (extendPath b v) (paths (k v)))
 
--- what the paths weigh together whose result passes the test: each weighs 1 over the product of the bounds that it met
+-- the total weight of the paths whose result passes the test: a path weighs 1 over the product of the bounds that it met
 unfoldable pub weight : {A : Type 0} → (A → Bool) → List (Path A) → Fraction
 weight t ps = sumOver ps (λ p. indicator (t (p .result)) // p .bounds)
 
--- the mean of f over the results of a plan, by recursion: the values of a draw share its mass evenly
+-- the mean of f over the results of a plan, by recursion: all values of a draw have equal mass
 unfoldable pub mean : {A : Type 0} → (A → Fraction) → Plan A → Fraction
 mean f (done a) = f a
 mean f (draw b k) = 1 // b ⊗ sum b (λ v. mean f (k v))
 
--- the mass of the results that pass the test: the mean of 1 where a result does and 0 where it does not
+-- the mass of the results that pass the test: the mean of the indicator of the test
 unfoldable pub mass : {A : Type 0} → (A → Bool) → Plan A → Fraction
 mass t p = mean (λ a. indicator (t a) // 1) p
 

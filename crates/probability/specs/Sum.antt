@@ -18,7 +18,7 @@ unfoldable pub total : List ℕ → ℕ
 total [] = 0
 total (n ∷ ns) = n + total ns
 
--- the value of an element whose key is k, 0 of another
+-- the value of an element if its key is k, else 0
 abbrev pub valueBy : {A : Type 0} → (A → ℕ) → (A → ℕ) → ℕ → A → ℕ
 valueBy key value k x = cond (eqb (key x) k) (value x) 0
 

@@ -84,15 +84,15 @@ module _ (sheet ws : List ℕ) {n k : ℕ} (e : reply sheet ws 0 (2 * mostRounds
       }
 
 -- what the code writes of a reply is the text
-pub record Told (sheet ws : List ℕ) (r : Reply) (out : List ℕ) : Type 0 where
+pub record TextIs (sheet ws : List ℕ) (r : Reply) (out : List ℕ) : Type 0 where
   pub ready : Printable r out
   pub is : textOf sheet ws ≡ printedWords r out
 
-pub text-told : (sheet ws : List ℕ) (r : Reply) (out : List ℕ) {out′ : List ℕ} → r ≡ reply sheet ws 0 (2 * mostRounds) → length ws ≤ mostWords
-    → length out ≡ 2 * mostRounds → length out′ ≡ length out → out′ ≡ output sheet ws 0 out → Told sheet ws r out′
-text-told sheet ws r out {out′} e h l l′ o = go (eqb (r .number) 0) refl
+pub text-is : (sheet ws : List ℕ) (r : Reply) (out : List ℕ) {out′ : List ℕ} → r ≡ reply sheet ws 0 (2 * mostRounds) → length ws ≤ mostWords
+    → length out ≡ 2 * mostRounds → length out′ ≡ length out → out′ ≡ output sheet ws 0 out → TextIs sheet ws r out′
+text-is sheet ws r out {out′} e h l l′ o = go (eqb (r .number) 0) refl
   where
-    go : (t : Bool) → eqb (r .number) 0 ≡ t → Told sheet ws r out′
+    go : (t : Bool) → eqb (r .number) 0 ≡ t → TextIs sheet ws r out′
     go true q =
         let z : replied (r .second) (r .third) ≡ r = ap (λ n. numbers n (r .second) (r .third)) (sym (eqb-true (r .number) 0 q)) in
         let t = text-chosen sheet ws (sym (z ∙ e)) out h l l′ o in

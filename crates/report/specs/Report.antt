@@ -133,18 +133,18 @@ printedWords r out = printed r (pairLines (take (2 * r .second) out))
 abbrev pub textRoom : ℕ
 textRoom = 2048
 
--- a reply whose choices, if it is no refusal, stand in the output words, with room for their text
+-- if a reply is no refusal, its choices stand in the output words, and their text has room
 abbrev pub Printable : Reply → List ℕ → Type 0
 Printable r out =
     r .number ≡ 0 → (2 * r .second ≤ length out) × (length (pairLines (take (2 * r .second) out) ++ wordsLine (r .third)) ≤ textRoom)
 
--- the words ws stand first among some words, n of them
+-- the first n words are ws
 pub record Decoded (ws words : List ℕ) (n : ℕ) : Type 0 where
   pub is : take n words ≡ ws
   pub count : n ≡ length ws
   pub fits : n ≤ length words
 
--- the text old, in which new was written from a position on, and the position behind it
+-- `text` is `old` with `new` written from a position on, and `next` is the position behind it
 pub record Appended (old : List ℕ) (from : ℕ) (new text : List ℕ) (next : ℕ) : Type 0 where
   pub is : text ≡ take from old ++ (new ++ drop (from + length new) old)
   pub ends : next ≡ from + length new

@@ -12,7 +12,7 @@ use Rattle.report.specs.Report.{report}
 abbrev case : List ℕ → List ℕ → List ℕ → Bool
 case sheet words text = same (report sheet (length sheet) words) text
 
--- a sheet of so many bytes, of which its length alone matters, and the text
+-- a sheet of which only the size in bytes matters, and the text
 abbrev long : ℕ → List ℕ → Bool
 long size text = same (report [] size []) text
 
@@ -21,7 +21,7 @@ abbrev bytes : ℕ → ℕ → List ℕ
 bytes zero w = []
 bytes (suc k) w = w % 256 ∷ bytes k (w / 256)
 
--- the bytes of numbers, each of so many
+-- the bytes of numbers, `size` bytes each
 abbrev file : ℕ → List ℕ → List ℕ
 file size [] = []
 file size (w ∷ ws) = bytes size w ++ file size ws

@@ -70,12 +70,12 @@ replacement ws = drawPlace (G ws) (map growth ws) true
 unfoldable pub keyfitz : List Weight → ℕ → Plan Selection
 keyfitz ws i = stayOr (weightAt ws i) (done (selection i false)) (replacement ws)
 
--- what follows for each preliminary lift
+-- the choice once the preliminary lift is known
 unfoldable pub select : Donors → List Lift → Preliminary → Plan Selection
 select ds ls noPreliminary = fresh ls
 select ds ls (preliminaryAt i) = keyfitz (weights ds ls) i
 
--- the round's choice, from the round and its held lifts: neither, one or both here
+-- the choice of a round, from its held lifts
 unfoldable pub plan : Donors → List Lift → Held → Plan Selection
 plan ds ls h = bind (preliminary ds ls h) (select ds ls)
 

@@ -32,7 +32,7 @@ tickets n grid = Σ n (λ i. Σ n (λ j. grid i j))
 abbrev pub keptTickets : ℕ → (ℕ → ℕ → ℕ) → ℕ
 keptTickets n grid = Σ n (λ i. grid i i)
 
--- some coupling of the weights has tickets and keeps exactly this part of them
+-- a coupling of the weights that has tickets and keeps exactly this part of them
 pub record Attained (ws : List Weight) (part : Fraction) : Type 0 where
   pub times : ℕ
   pub grid : ℕ → ℕ → ℕ
@@ -54,7 +54,7 @@ pub record Best (ws : List Weight) (N : ℕ) (part : Fraction) : Type 0 where
   -- the part is the sum of the smaller of both weights over N
   pub exactly : part ≈ total (map smaller ws) // N
 
--- proved: of what the ways keep in every round that a fitting sheet gives "with one donor and U = T"; N is D × S
+-- proved: of what the paths keep in every well-posed round "with one donor and U = T"; N is D × S
 abbrev pub KeepsTheorem : Type 0
 KeepsTheorem =
     (T : ℕ) (ls : List Lift) → WellPosed (One T) ls → U 1 ls ≡ T → Best (weights (One T) ls) (D (One T) ls * S ls) (roundKept (One T) ls)

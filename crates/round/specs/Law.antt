@@ -1,4 +1,4 @@
--- What is proved of every round of a fitting sheet, besides its shares and its keeping (proofs/Laws.antt).
+-- What is proved of every round besides its shares and its keeping (proofs/Laws.antt).
 use Prim.Native.Nat.{ℕ, _-_, _*_, _^_, _≤_, _<_}
 use mathlib.Core.Path.{_≡_}
 use mathlib.Core.List.{List, map}
@@ -13,7 +13,7 @@ use Rattle.round.specs.declared.Held.{Held}
 use Rattle.round.specs.declared.Held.the-variants.{Neither, Single, Both}
 use Rattle.round.specs.declared.Lift.{Lift}
 
--- the sums and products of a round within the sheet's bounds
+-- the sums and products of a round fit 64 bits
 pub record Fits64 (ds : Donors) (ls : List Lift) : Type 0 where
   pub scale : D ds ls ≤ 2 ^ 41
   -- "Both weights sum to D × S, at most 2^61."

@@ -8,7 +8,7 @@ use Rattle.round.specs.declared.Donors.{Donors}
 use Rattle.round.specs.declared.Donors.the-variants.{None, One, Two}
 use Rattle.round.specs.declared.Lift.{Lift}
 
--- the lift at a place of the round; beyond the last there is none
+-- the lift at a place of the round; one of measure 0 beyond the last
 abbrev pub liftAt : List Lift → ℕ → Lift
 liftAt ls i = getD ls i (record { old = 0; donor = 0; new = 0 })
 
@@ -73,7 +73,7 @@ AreDonors None ls = Unit {0}
 AreDonors (One T) ls = IsDonor 1 T ls
 AreDonors (Two T₁ T₂) ls = IsDonor 1 T₁ ls × IsDonor 2 T₂ ls
 
--- what every fitting sheet gives of a round: its sum is above 0 (refusal 9), and each donor sends it measure
+-- so is every round of a fitting sheet: its sum is above 0 (refusal 9), and each donor sends it measure
 pub record WellPosed (ds : Donors) (ls : List Lift) : Type 0 where
   pub positive : 0 < S ls
   pub donate : AreDonors ds ls

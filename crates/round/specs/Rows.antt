@@ -31,21 +31,21 @@ rowLength = 4
 abbrev pub rowLift : List ℕ → Lift
 rowLift row = liftOfMeasures (getD row 2 0) (getD row 1 0) (getD row 3 0)
 
--- the round whose rows these are, in lift order
+-- the lifts of a round lent as rows, in lift order
 unfoldable pub rowLifts : List ℕ → List Lift
 rowLifts rows = map rowLift (pieces rowLength rows)
 
--- the sums up to which the products of a round fit 64 bits; the sheet's largest sum is not above it
+-- sums up to this bound have products that fit 64 bits; the sheet's largest sum is not above it
 abbrev pub capacity : ℕ
 capacity = 2 ^ 20
 
--- the donors' whole old sums
+-- no donor's whole old sum is above the bound
 abbrev pub SumsBounded : Donors → Type 0
 SumsBounded None = Unit {0}
 SumsBounded (One T) = T ≤ capacity
 SumsBounded (Two T₁ T₂) = (T₁ ≤ capacity) × (T₂ ≤ capacity)
 
--- no sum is above that
+-- no sum of the round is above the bound
 pub record Bounded (ds : Donors) (ls : List Lift) : Type 0 where
   pub new : S ls ≤ capacity
   pub old : SumsBounded ds
@@ -60,7 +60,7 @@ Stands None (Both i j) n = ⊥
 Stands (One T) (Both i j) n = ⊥
 Stands (Two T₁ T₂) (Both i j) n = (i < n) × (j < n)
 
--- what a caller shows of the round and its held lifts: every fitting sheet gives it
+-- what a caller must show of a round and its held lifts; those of every fitting sheet have it
 pub record Callable (ds : Donors) (ls : List Lift) (h : Held) : Type 0 where
   pub fitting : WellPosed ds ls
   pub bounded : Bounded ds ls
@@ -68,7 +68,7 @@ pub record Callable (ds : Donors) (ls : List Lift) (h : Held) : Type 0 where
 
 -- ---- how the code computes
 
--- the sums that the choice goes by are those of the round: S, and U of each donor; without a donor it goes by none
+-- these are the sums of the round: S, and U of each donor; without a donor none is used
 abbrev pub HasSums : Donors → List Lift → Sums → Type 0
 HasSums None ls t = Unit {0}
 HasSums (One T) ls t = (t .new ≡ S ls) × (t .first ≡ U 1 ls)
@@ -112,7 +112,7 @@ pub record LiftWeightsFit (s : Scale) (l : Lift) : Type 0 where
 pub record Balanced (s : Scale) (ls : List Lift) : Type 0 where
   pub sums : total (map (λ l. scaled s l .old) ls) ≡ total (map (λ l. scaled s l .new) ls)
 
--- the most lifts that are lent at a time: a round is searched by blocks, all as long but the last
+-- how many lifts are lent at a time: a round is searched in blocks of this length, the last one shorter
 abbrev pub blockLength : ℕ
 blockLength = 16
 
@@ -120,7 +120,7 @@ blockLength = 16
 abbrev pub blockEnd : ℕ → ℕ → ℕ
 blockEnd a n = cond (ltb (n - a) blockLength) n (a + blockLength)
 
--- where both donors' lifts are held here there is something to draw below
+-- if both donors' lifts are held here, there is a bound to draw below
 abbrev pub Contested : Scale → Held → Type 0
 Contested s Neither = Unit {0}
 Contested s (Single i) = Unit {0}

@@ -25,7 +25,7 @@ heldOf elsewhere (here j) = Single j
 heldOf (here i) (here j) = Both i j
 
 -- the mean of f over the initial selections of donor k: "A marking names one lift of old measure above 0 in each old round",
--- each by its old measure over the donor's whole old sum T, lifts of no or another donor by 0
+-- each weighed by its old measure over the donor's whole old sum T; lifts that are not of donor k weigh 0
 unfoldable pub meanOverInitial : ℕ → ℕ → List Lift → (Initial → Fraction) → Fraction
 meanOverInitial k T ls f = sum (length ls) (λ i. measureFrom k (liftAt ls i) // T ⊗ f (here i)) ⊕ (T - U k ls) // T ⊗ f elsewhere
 
@@ -50,16 +50,15 @@ abbrev pub hasPreliminary : Preliminary → Bool
 hasPreliminary noPreliminary = false
 hasPreliminary (preliminaryAt a) = true
 
--- what the paths weigh together that choose the lift at place j
+-- the total weight of the paths that choose the lift at place j
 unfoldable pub roundShare : Donors → List Lift → ℕ → Fraction
 roundShare ds ls j = meanOverHeld ds ls (λ h. weight (chooses j) (paths (plan ds ls h)))
 
--- what the paths weigh together on which the preliminary lift passes the test
+-- the total weight of the paths whose preliminary lift passes the test
 unfoldable pub preliminaryShare : Donors → List Lift → (Preliminary → Bool) → Fraction
 preliminaryShare ds ls t = meanOverHeld ds ls (λ h. weight t (paths (preliminary ds ls h)))
 
--- Keyfitz's update: if the preliminary unit, one of the list, comes with its old weight over the sum N, the chosen one comes with
--- its new weight over N
+-- Keyfitz's update: if each unit is preliminary with its old weight over the sum N, each is chosen with its new weight over N
 pub record Updates (ws : List Weight) (N : ℕ) : Type 0 where
   pub updated : (p : Plan ℕ) → Every (λ i. i < length ws) p
       → ((i : ℕ) → i < length ws → weight (λ a. eqb a i) (paths p) ≈ weightAt ws i .old // N)
@@ -80,6 +79,6 @@ pub record Shares (ds : Donors) (ls : List Lift) : Type 0 where
   -- all paths weigh 1 together
   pub whole : meanOverHeld ds ls (λ h. weight (λ _. true) (paths (plan ds ls h))) ≈ 1 // 1
 
--- proved: in every round that a fitting sheet gives
+-- proved: in every well-posed round
 abbrev pub SharesTheorem : Type 0
 SharesTheorem = (ds : Donors) (ls : List Lift) → WellPosed ds ls → Shares ds ls

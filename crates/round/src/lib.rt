@@ -108,7 +108,7 @@ fn outcome(held: Held, place: usize, dropped: bool) -> u32
     3
 }
 
-// A draw below the sum of all intervals picks the lift in whose interval it falls.
+// A draw below the sum of the growths picks the lift in whose interval it falls.
 fn draw_lift(
     s: Scale,
     rows: &[u32],

@@ -12,7 +12,7 @@ use crate::Scale;
 use crate::Sums;
 use crate::WHOLLY;
 
-// What the old measures of a donor are multiplied by.
+// The multiplier of the old measures of a donor.
 pub fn multiplier(s: Scale, donor: u32) -> u64
     ensures { λ r. ⌜ r ≡ multiplierOf s donor ⌝ }
 {
@@ -58,7 +58,7 @@ pub fn lift_at(rows: &[u32], i: usize) -> Lift
     }
 }
 
-// The sum of the intervals of the lifts from place a up to place e.
+// The sum of the growths above zero of the lifts from place a up to place e.
 pub fn growth_sum_between(s: Scale, rows: &[u32], a: usize, e: usize) -> u64
     requires { ⌜ WeightsFit s (rowLifts (now rows)) ⌝ }
     requires { ⌜ e ≤ length (rowLifts (now rows)) ⌝ }
@@ -73,7 +73,7 @@ pub fn growth_sum_between(s: Scale, rows: &[u32], a: usize, e: usize) -> u64
     sum
 }
 
-// The sum of all intervals.
+// The sum of all growths above zero.
 pub fn growth_sum(s: Scale, rows: &[u32]) -> u64
     requires { ⌜ WeightsFit s (rowLifts (now rows)) ⌝ }
     ensures { λ r. ⌜ r ≡ G (map (scaled s) (rowLifts (now (rows .entry)))) ⌝ }

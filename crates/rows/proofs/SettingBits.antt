@@ -55,7 +55,7 @@ module _ (n w : ℕ) (b : Bool) (x : ℕ) (e : w ≡ indicator b + 2 * x) where
 
 -- ---- the lowest
 
--- the zeros below the lowest bit that is set tell its place; where there is none, they tell the place behind the last bit
+-- the number of zeros below the lowest bit that is set is its place; where none is set, it is the place behind the last bit
 pub set-first : (a n d w : ℕ) → d ≡ a + n → getD (setFrom a n w) 0 d ≡ a + trailingZeros n w
 unfolding setFrom trailingZeros
 set-first a zero d w q = q

@@ -1,4 +1,4 @@
--- Lifts that a sheet can tell: each is proper, and where no old round is unheld, each that is in use has one held lift; this gives the
+-- Well-formed lifts, and where 7 meets no old round, each that is in use has one held lift; this gives the
 -- length of their sheet.
 use Prim.Native.Nat.{ℕ, zero, suc, _+_, _*_, _≤_, _<_}
 use mathlib.Core.Path.{_≡_, refl, sym, ap, ap₂, _∙_}
@@ -26,7 +26,7 @@ use Rattle.selection.specs.Choice.{noLift}
 abbrev pub oldRound : Lift → ℕ
 oldRound l = l .old .round
 
--- ---- lifts that a sheet can tell
+-- ---- well-formed lifts
 
 -- each is proper behind the lift before the first
 pub proper : (n : ℕ) (ls : List Lift) → AllWellFormed n ls → All (LiftWellFormed n) ls

@@ -34,7 +34,7 @@ unfolding marked totalBy
 held-marked m t [] = refl
 held-marked m t (l ∷ ls) = ap (λ n. cond (eqb (l .old .round) t) (indicator (names m (l .number))) 0 + n) (held-marked m t ls)
 
--- a sheet can tell them, if those named have old measure above 0
+-- they are well-formed, if those named have old measure above 0
 listed-marked : (m : List Lift) (n : ℕ) (ls : List Lift) → All (λ l. names m (l .number) ≡ true → 0 < l .old .measure) ls
     → AllWellFormed n ls → AllWellFormed n (marked m ls)
 unfolding marked AllWellFormed

@@ -18,7 +18,7 @@ use Rattle.selection.proofs.Held.{oldRound, proper}
 
 -- ---- lifts of one number
 
--- a number tells the lift
+-- a number names one lift
 pub same : {a : Lift} {ls : List Lift} → List·Memᴰ a ls → (n : ℕ) → AllWellFormed n ls → All (λ l. a .number ≡ l .number → a ≡ l) ls
 unfolding AllWellFormed
 same {a} (List·Memᴰ·head {x = x} {xs = ls} e) n d =

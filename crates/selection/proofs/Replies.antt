@@ -28,10 +28,10 @@ pub ran : (sheet ws : List ℕ) (start room : ℕ) {n k : ℕ} → reply sheet w
 unfolding reply
 ran sheet ws start room {n} {k} e = judged (verdict sheet) refl e
   where
-    told : Fit (lifts sheet) → (p : Panel) → panel (lifts sheet) ws start ≡ p → start ≤ length ws → ofPanel start p ≡ replied n k → Ran sheet ws start n k
-    told f (chosen cs next) h l q =
+    of-panel : Fit (lifts sheet) → (p : Panel) → panel (lifts sheet) ws start ≡ p → start ≤ length ws → ofPanel start p ≡ replied n k → Ran sheet ws start n k
+    of-panel f (chosen cs next) h l q =
         record { choices = cs; next = next; is = h; count = sym (ap (λ r. r .second) q); read = sym (ap (λ r. r .third) q); started = l; fit = f }
-    told f (short r) h l q = absurd (omega (arith, ap (λ r. r .number) q))
+    of-panel f (short r) h l q = absurd (omega (arith, ap (λ r. r .number) q))
 
     lent : Fit (lifts sheet) → (rounds : ℕ) → ofLent (lifts sheet) rounds ws start room ≡ replied n k → Ran sheet ws start n k
     lent f rounds q = go (ltb (length ws) start) refl (ltb room (2 * rounds)) q
@@ -41,7 +41,7 @@ ran sheet ws start room {n} {k} e = judged (verdict sheet) refl e
             → Ran sheet ws start n k
         go true h u q = absurd (omega (arith, ap (λ r. r .number) q))
         go false h true q = absurd (omega (arith, ap (λ r. r .number) q))
-        go false h false q = told f (panel (lifts sheet) ws start) refl (ltb-false _ _ h) q
+        go false h false q = of-panel f (panel (lifts sheet) ws start) refl (ltb-false _ _ h) q
 
     judged : (v : Verdict) → verdict sheet ≡ v → ofVerdict v (λ rounds. ofLent (lifts sheet) rounds ws start room) ≡ replied n k → Ran sheet ws start n k
     judged (refused x) h q = absurd (omega (arith, ap (λ r. r .number) q, decided sheet .above x h))

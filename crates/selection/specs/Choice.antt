@@ -43,7 +43,7 @@ inRound number l = liftOfMeasures (l .old .measure) (number (l .old .round)) (pl
 unfoldable pub liftsOf : ℕ → List Lift → List RoundLift
 liftsOf r ls = map (inRound (donorNumber (donors r ls))) (ofRound r ls)
 
--- the held lifts of some donors, from where each donor's stands
+-- the held lifts of the donors, from where each donor's held lift stands
 abbrev pub heldAmong : (ℕ → Initial) → List ℕ → Held
 heldAmong place [] = Neither
 heldAmong place (d ∷ []) = heldOf (place d) elsewhere
@@ -78,12 +78,12 @@ pub data Panel : Type 0 where
   chosen : List Choice → ℕ → Panel
   short : ℕ → Panel
 
--- with one choice before them
+-- a panel with one more choice before its others
 abbrev pub preceded : Choice → Panel → Panel
 preceded c (chosen cs next) = chosen (c ∷ cs) next
 preceded c (short r) = short r
 
--- after the run of a round, the rounds behind it
+-- after the run of a round, the panel of the rounds that follow
 abbrev pub andThen : ℕ → List Lift → Run Selection → (ℕ → Panel) → Panel
 andThen r ls (finished vs s next) k =
     preceded (record { round = r; number = liftInRound r ls (s .place) .number; outcome = outcome (heldOfRound r ls) s; values = vs }) (k next)
@@ -97,7 +97,7 @@ panelFrom ls ws from (r ∷ rs) = andThen r ls (run largest ws from (planOf r ls
 abbrev pub panel : List Lift → List ℕ → ℕ → Panel
 panel ls ws start = panelFrom ls ws start (inUse New ls)
 
--- a value of each choice at its round's place of a table
+-- a table with a value of each choice at the place of its round
 unfoldable pub byRound : (Choice → ℕ) → List Choice → List ℕ → List ℕ
 byRound f [] xs = xs
 byRound f (c ∷ cs) xs = byRound f cs (set xs (c .round) (f c))
@@ -118,7 +118,7 @@ unlessLacking rounds words start room otherwise =
 abbrev pub ofLent : List Lift → ℕ → List ℕ → ℕ → ℕ → Reply
 ofLent ls rounds ws start room = unlessLacking rounds (length ws) start room (ofPanel start (panel ls ws start))
 
--- the reply to a sheet, random words, a start position and an output of so many words
+-- the reply to a sheet, random words, a start position and an output of `room` words
 unfoldable pub reply : List ℕ → List ℕ → ℕ → ℕ → Reply
 reply sheet ws start room = ofVerdict (verdict sheet) (λ rounds. ofLent (lifts sheet) rounds ws start room)
 

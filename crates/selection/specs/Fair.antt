@@ -19,7 +19,7 @@ use Rattle.tally.specs.Law.{Fit}
 use Rattle.selection.specs.Choice.{donorsOf, liftsOf, heldOfRound, planOf, liftInRound, Panel, chosen, short, panel, reply, pair, output}
 use Rattle.selection.specs.Initial.{selections, marked, meanOverSelections}
 
--- what the paths weigh together, over all initial selections, that choose the lift at place j of round r: "The way weighs the product
+-- the total weight, over all initial selections, of the paths that choose the lift at place j of round r: "The way weighs the product
 -- of the held lifts' old measures over the product of all old sums, divided by the W of each of its draws."
 unfoldable pub share : List Lift → ℕ → ℕ → Fraction
 share ls r j = meanOverSelections ls (λ ms. weight (chooses j) (paths (planOf r ms)))

@@ -15,7 +15,7 @@ unfoldable pub eligible : ℕ → List Lift → List Lift
 eligible t [] = []
 eligible t (l ∷ ls) = cond (eqb (l .old .round) t && ltb 0 (l .old .measure)) (l ∷ eligible t ls) (eligible t ls)
 
--- each of some lifts before each of some selections
+-- each of the lifts put before each of the selections
 unfoldable pub each : List Lift → List (List Lift) → List (List Lift)
 each [] ms = []
 each (l ∷ ls) ms = map (λ m. l ∷ m) ms ++ each ls ms
@@ -50,6 +50,6 @@ product (n ∷ ns) = n * product ns
 unfoldable pub initialWeight : List ℕ → List Lift → List Lift → Fraction
 initialWeight ts m ls = product (map (λ l. l .old .measure) m) // product (map (λ t. sumOf Old t ls) ts)
 
--- the mean over all initial selections of f of the lifts so marked
+-- the mean of f over all initial selections, f taken of the lifts so marked
 unfoldable pub meanOverSelections : List Lift → (List Lift → Fraction) → Fraction
 meanOverSelections ls f = sumOver (selections ls) (λ m. initialWeight (inUse Old ls) m ls ⊗ f (marked m ls))

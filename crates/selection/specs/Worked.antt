@@ -18,7 +18,7 @@ use Rattle.selection.specs.Fair.{share, kept}
 abbrev case : List ℕ → List ℕ → ℕ → List ℕ → Reply → List ℕ → Bool
 case sheet ws start out r after = sameReply (reply sheet ws start (length out)) r && same (output sheet ws start out) after
 
--- one choice from the first word on, so many words read, with a word behind the pair that stays
+-- one choice from the first word on, with the number of words read, and a word behind the pair that stays
 abbrev choice : List ℕ → List ℕ → ℕ → ℕ → ℕ → Bool
 choice sheet ws read first second = case sheet ws 0 (7 ∷ 8 ∷ 9 ∷ []) (numbers 0 1 read) (first ∷ second ∷ 9 ∷ [])
 
@@ -44,8 +44,8 @@ abbrev noChance : List ℕ
 noChance = sheetOf (lift 1 1 3 1 0 true ∷ lift 2 1 7 1 1 false ∷ [])
 
 -- new rounds 3 and 70: the second chooses among two newcomers
-abbrev rounds : List ℕ
-rounds = sheetOf (lift 1 1 3 3 0 true ∷ lift 2 1 7 3 1 false ∷ lift 3 0 0 70 1 false ∷ lift 4 0 0 70 1 false ∷ [])
+abbrev twoRounds : List ℕ
+twoRounds = sheetOf (lift 1 1 3 3 0 true ∷ lift 2 1 7 3 1 false ∷ lift 3 0 0 70 1 false ∷ lift 4 0 0 70 1 false ∷ [])
 
 abbrev pub cases : List Bool
 cases =
@@ -64,32 +64,32 @@ cases =
     ∷ choice noChance (1 ∷ 0 ∷ []) 2 0x50200002 0x60000002
     ∷ choice noChance (2 ∷ 0 ∷ []) 2 0x50200002 0x60000002
     -- "in rising order, each reading on where the one before stopped", from a start on; "words behind the last pair .. keep what they had"
-    ∷ case rounds (5 ∷ 0 ∷ 0 ∷ 1 ∷ []) 1 (5 ∷ 6 ∷ 7 ∷ 8 ∷ 9 ∷ [])
+    ∷ case twoRounds (5 ∷ 0 ∷ 0 ∷ 1 ∷ []) 1 (5 ∷ 6 ∷ 7 ∷ 8 ∷ 9 ∷ [])
     (numbers 0 2 3) (0x50600002 ∷ 0x60000002 ∷ 0x58C00003 ∷ 0x60000004 ∷ 9 ∷ [])
     -- 11 before 12, where no word is needed; 12 before 13, and where the words suffice; "13. The chance words end before a needed draw is
     -- finished. Place: the new round."
     ∷ refused (three 13) (0 ∷ []) 2 [] 11 2
     ∷ refused (three 13) (0 ∷ []) 2 (7 ∷ 8 ∷ []) 11 2
-    ∷ refused rounds (0 ∷ []) 1 (7 ∷ 8 ∷ 9 ∷ []) 12 4
-    ∷ refused rounds (0 ∷ 0 ∷ 1 ∷ []) 0 (7 ∷ 8 ∷ 9 ∷ []) 12 4
-    ∷ refused rounds (0 ∷ []) 1 (6 ∷ 7 ∷ 8 ∷ 9 ∷ []) 13 3
-    ∷ refused rounds (0 ∷ 0 ∷ []) 0 (6 ∷ 7 ∷ 8 ∷ 9 ∷ []) 13 70
+    ∷ refused twoRounds (0 ∷ []) 1 (7 ∷ 8 ∷ 9 ∷ []) 12 4
+    ∷ refused twoRounds (0 ∷ 0 ∷ 1 ∷ []) 0 (7 ∷ 8 ∷ 9 ∷ []) 12 4
+    ∷ refused twoRounds (0 ∷ []) 1 (6 ∷ 7 ∷ 8 ∷ 9 ∷ []) 13 3
+    ∷ refused twoRounds (0 ∷ 0 ∷ []) 0 (6 ∷ 7 ∷ 8 ∷ 9 ∷ []) 13 70
     -- 1 to 10 before them
     ∷ refused [] [] 1 [] 1 0
     ∷ []
 
 -- the three lifts with these new measures, 12 held; 2,097,151 being "not counted"
-abbrev measured : ℕ → ℕ → ℕ → List ℕ
-measured a b c = sheetOf (lift 11 1 2 1 a false ∷ lift 12 1 3 1 b true ∷ lift 13 1 5 1 c false ∷ [])
+abbrev withMeasures : ℕ → ℕ → ℕ → List ℕ
+withMeasures a b c = sheetOf (lift 11 1 2 1 a false ∷ lift 12 1 3 1 b true ∷ lift 13 1 5 1 c false ∷ [])
 
 abbrev pub silentCases : List Bool
 silentCases =
     -- "the lift counts with its old measure": no word is read where none was counted, and none where the others' sum stays
-    choice (measured 2097151 2097151 2097151) [] 0 0x50200001 0x6000000C
-    ∷ choice (measured 1 2097151 6) [] 0 0x50200001 0x6000000C
+    choice (withMeasures 2097151 2097151 2097151) [] 0 0x50200001 0x6000000C
+    ∷ choice (withMeasures 1 2097151 6) [] 0 0x50200001 0x6000000C
     -- S is 12, and T 10: 12 stays by 30 of its 36
-    ∷ choice (measured 4 2097151 2097151) (29 ∷ []) 1 0x50200001 0x6000000C
-    ∷ choice (measured 4 2097151 2097151) (30 ∷ 0 ∷ []) 2 0x50200002 0x6000000B
+    ∷ choice (withMeasures 4 2097151 2097151) (29 ∷ []) 1 0x50200001 0x6000000C
+    ∷ choice (withMeasures 4 2097151 2097151) (30 ∷ 0 ∷ []) 2 0x50200002 0x6000000B
     -- 16, like 1 to 10, before 11 to 13
     ∷ refused (0x1000000B ∷ 0x20000000 ∷ 0x303FFFFF ∷ 0xF0000001 ∷ []) [] 1 [] 16 2
     ∷ []

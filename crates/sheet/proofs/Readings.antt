@@ -1,4 +1,4 @@
--- The laws of a word's fault, by what it tells, and of the loop over the words of a sheet: one for each way out of a turn, and two for the end.
+-- The laws of a word's fault, by its kind, and of the loop over the words of a sheet: one for each way out of a turn, and two for the end.
 use Prim.Native.Nat.{ℕ, zero, suc, _+_, _*_, _^_, _≤_, _<_}
 use mathlib.Core.Path.{_≡_, refl}
 use mathlib.Core.Bool.{Bool, true, false, cond, not, _&&_, _||_, true≢false}
@@ -30,7 +30,7 @@ unless-then (suc n) i rest = refl
 
 -- ---- a word's fault
 
--- of a word in sequence that tells a place, and of one that tells none
+-- of a word in sequence that holds a place, and of one that holds none
 module _ (s : ScanState) (w : ℕ) (f : mayFollow (s .kind) (kind w) ≡ true) where
   pub place-fault : isPlace (kind w) ≡ true → fault s w ≡ cond (misplaced w) 4 (cond (uncountedNewcomer s w) 16 0)
   unfolding fault
@@ -52,7 +52,7 @@ module _ (s : ScanState) (w : ℕ) (f : mayFollow (s .kind) (kind w) ≡ true) w
 
 -- ---- a lift's three words
 
--- what is known of a word that tells a place of kind k and is counted
+-- what is known of a word that holds a place of kind k and is counted
 abbrev Counted : (k w : ℕ) → Type 0
 Counted k w = (kind w ≡ k) × (misplaced w ≡ false) × (placeOf w .measure ≤ largestSum)
 
@@ -84,7 +84,7 @@ sound-lift s a b c f k n o p = (
 
 -- ---- the loop
 
--- the loop's invariant: reading on from word i, with s told before it, reads the sheet, and s tells no more lifts than words
+-- the loop's invariant: reading on from word i in state s reads the sheet, and s has no more lifts than there are words
 pub record Kept (ws : List ℕ) (s : ScanState) (i : ℕ) : Type 0 where
   pub same : readFrom s i (drop i ws) ≡ reading ws
   pub few : s .lifts ≤ i

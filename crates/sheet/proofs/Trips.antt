@@ -1,5 +1,5 @@
--- Reading and writing are inverse. The words of lifts pass one by one and tell these lifts (`lifts-pass`, `lifts-back`); words that
--- pass are parsed into those of some lifts (`parse`), and so these are the lifts that they tell.
+-- Reading and writing are inverse. The words of lifts pass one by one and read back as these lifts (`lifts-pass`, `lifts-back`); words that
+-- pass are parsed into those of some lifts (`parse`), and so these are the lifts that they encode.
 use Prim.Native.Nat.{ℕ, zero, suc, _+_, _^_, _≤_, _<_}
 use mathlib.Core.Path.{_≡_, refl, sym, ap, ap₂, _∙_}
 use mathlib.Core.Bool.{Bool, true, false, cond, not, _&&_, _||_, true≢false, false≢true, not-eq-not, and-eq-true-iff}
@@ -14,7 +14,7 @@ use Rattle.sheet.specs.Reading.{startState, nextState, mayFollow, outOfS
 use Rattle.sheet.specs.Law.{PlaceWellFormed, LiftWellFormed, AllWellFormed, WellFormed, ReadBackTheorem, WrittenBackTheorem, WritablePlace, AllWritable, BackTheorem}
 use Rattle.sheet.specs.declared.faults.ScanState.{ScanState}
 
--- what the words before tell, from its parts
+-- the state of the scan, from its parts
 abbrev state : ℕ → ℕ → ℕ → ℕ → ScanState
 state k n o c = record { kind = k; number = n; old = o; lifts = c }
 
@@ -41,7 +41,7 @@ not-held : (n : ℕ) (a : Bool) {r : ℕ} → cond a (suc n) r ≡ 0 → (a ≡ 
 not-held n true h = absurd (omega arith)
 not-held n false h = (refl, h)
 
--- what a word without a fault tells, by its kind
+-- what is known of a word without a fault, by its kind
 record Passes (s : ScanState) (w : ℕ) : Type 0 where
   order : mayFollow (s .kind) (kind w) ≡ true
   number : kind w ≡ liftKind → s .number < payload w

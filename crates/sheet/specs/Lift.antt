@@ -13,7 +13,7 @@ pub data Side : Type 0 where
   Old : Side
   New : Side
 
--- the new measure that counts, from both as they are written: not counted, "the lift counts with its old measure"
+-- the new measure that counts, from both measures as written: if not counted, "the lift counts with its old measure"
 abbrev pub filledIn : (old new : ℕ) → ℕ
 filledIn old new = cond (eqb new notCounted) old new
 
@@ -22,7 +22,7 @@ abbrev pub placeAt : Side → Lift → Place
 placeAt Old l = l .old
 placeAt New l = record { round = l .new .round; measure = filledIn (l .old .measure) (l .new .measure) }
 
--- the word behind a lift's places, if it is of kind 4, is the held word: so it is in a legible sheet
+-- if the word after a lift's places is of kind 4, it is the one held word that a legible sheet may have
 abbrev pub MarkSound : List ℕ → Type 0
 MarkSound ws = kind (getD ws 3 0) ≡ heldKind → getD ws 3 0 ≡ word heldKind 0
 

@@ -17,13 +17,13 @@ use Rattle.sheet.specs.declared.Judged.the-variants.{Faulty, Sound}
 abbrev pub mislong : List ℕ → Bool
 mislong ws = eqb (length ws) 0 || ltb longest (length ws)
 
--- ---- what the words before a word tell
+-- ---- the state of the scan
 
--- what the words before the first one tell: no kind, no lift
+-- before the first word: no kind, no lift
 abbrev pub startState : ScanState
 startState = record { kind = 0; number = 0; old = 0; lifts = 0 }
 
--- what a word adds: its kind, a lift's number, the word of a lift's old place, one lift more
+-- after a word: its kind; the number of the last lift, the word of its old place, and how many lifts there are
 abbrev pub nextState : ScanState → ℕ → ScanState
 nextState s w =
     record {
@@ -51,7 +51,7 @@ outOfSequence s w = not (mayFollow (s .kind) (kind w))
 abbrev pub misnumbered : ScanState → ℕ → Bool
 misnumbered s w = eqb (kind w) liftKind && (eqb (payload w) 0 || leb (payload w) (s .number))
 
--- the kinds of places
+-- whether a word of kind k holds a place
 abbrev pub isPlace : ℕ → Bool
 isPlace k = eqb k oldKind || eqb k newKind
 
@@ -93,12 +93,12 @@ fault s w =
 
 -- ---- the first faulty word
 
--- the refusal of what is first found faulty, or that nothing is
+-- the refusal of the first faulty word, or that no word is faulty
 pub data Reading : Type 0 where
   faulty : Numbered → Reading
   sound : Reading
 
--- at word i: a fault ends the reading, else it goes on
+-- a fault at word i ends the reading; without one it continues
 abbrev pub unlessFault : ℕ → ℕ → Reading → Reading
 unlessFault zero i rest = rest
 unlessFault (suc n) i rest = faulty (numbered (suc n) i)
@@ -115,7 +115,7 @@ reading ws = readFrom startState 0 ws
 abbrev pub ofWords : List ℕ → Reading
 ofWords ws = cond (mislong ws) (faulty (numbered 1 (length ws))) (reading ws)
 
--- none of the refusals 1 to 6 and 16 applies: the words are not too many, and none is faulty (so there is one)
+-- none of the refusals 1 to 6 and 16 applies: there are not too many words, and none is faulty; a sheet without words has no end, and is
 pub record Legible (ws : List ℕ) : Type 0 where
   pub short : length ws ≤ longest
   pub read : reading ws ≡ sound

@@ -1,4 +1,4 @@
--- "The sheet" of document 01, with Card 2 of document 02: its words, the lifts that they tell, and the words of a list of lifts.
+-- "The sheet" of document 01, with Card 2 of document 02: its words, the lifts that they encode, and the words of a list of lifts.
 use Prim.Native.Nat.{ℕ, _+_, _*_, _/_, _%_, _^_}
 use mathlib.Core.Bool.{Bool, cond}
 use mathlib.Core.List.{List, [], _∷_, _++_}
@@ -98,7 +98,7 @@ placeWord k p = word k (p .round * 2 ^ 21 + p .measure)
 abbrev pub liftWords : Lift → List ℕ
 liftWords l = word liftKind (l .number) ∷ placeWord oldKind (l .old) ∷ placeWord newKind (l .new) ∷ cond (l .held) (word heldKind 0 ∷ []) []
 
--- the words of lifts, and those that follow
+-- the words of lifts, followed by other words
 unfoldable pub wordsThen : List Lift → List ℕ → List ℕ
 wordsThen [] ws = ws
 wordsThen (l ∷ ls) ws = liftWords l ++ wordsThen ls ws

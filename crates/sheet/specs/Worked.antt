@@ -93,11 +93,11 @@ cases =
     ∷ case (0x1000000B ∷ 0x20200001 ∷ 0x30200001 ∷ 0x40000001 ∷ 0xF0000001 ∷ []) (faulty (numbered 6 3))
     ∷ []
 
--- what the words before an end word say, behind n lifts
+-- the state of the scan before an end word, after n lifts
 abbrev behind : ℕ → ScanState
 behind n = record { kind = 3; number = n; old = 0; lifts = n }
 
--- "5. End count not the number of lifts, or above 4,096.": behind 4,096 lifts and behind 4,097
+-- "5. End count not the number of lifts, or above 4,096.": after 4,096 lifts and after 4,097
 abbrev pub endCases : List Bool
 endCases =
     eqb (fault (behind 4096) 0xF0001000) 0

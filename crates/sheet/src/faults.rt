@@ -8,8 +8,8 @@ use crate::Judged;
 use crate::Sheet;
 use reply::Refusal;
 
-// What the words before a word tell: the last one's kind, 0 before the first, the last lift's number, the word of its old
-// place, and how many lifts there are.
+// The state of the scan: the kind of the last word, 0 before the first, the number of the last lift, the word of its old place, and
+// how many lifts there are.
 pub struct ScanState {
     pub kind: u32,
     pub number: u32,
@@ -41,7 +41,7 @@ fn misnumbered(s: ScanState, word: u32) -> bool
     Sheet::kind(word) == Sheet::LIFT && (payload == 0 || payload <= s.number)
 }
 
-// Whether a word of a kind tells a place.
+// Whether a word of a kind holds a place.
 fn is_place(kind: u32) -> bool
     ensures { λ r. ⌜ r ≡ isPlace kind ⌝ }
 {
@@ -55,7 +55,7 @@ fn too_large(kind: u32, measure: u64) -> bool
     measure > Sheet::LARGEST_SUM && (kind != Sheet::NEW || measure != Sheet::NOT_COUNTED)
 }
 
-// Whether a round and a measure are no place that a word of a kind may tell.
+// Whether refusal 4 meets a round and a measure in a word of a kind.
 fn beyond(kind: u32, round: usize, measure: u64) -> bool
     ensures { λ r. ⌜ r ≡ beyondOf kind round measure ⌝ }
 {
@@ -99,7 +99,7 @@ fn mismarked(s: ScanState, word: u32) -> bool
     Sheet::kind(word) == Sheet::HELD && (Sheet::payload(word) != 0 || Sheet::measure(s.old) == 0)
 }
 
-// The refusal that a word at position i meets, if it is one of places.
+// The refusal that a word at position i meets, if it is 4 or 16.
 fn judge_place(s: ScanState, word: u32, i: usize) -> Judged
     ensures { λ r. ⌜ readingOf r ≡ unlessFault (cond (misplacedOf word) 4 (cond (uncountedNewcomerOf s word) 16 0)) i sound ⌝ }
 {
@@ -112,7 +112,7 @@ fn judge_place(s: ScanState, word: u32, i: usize) -> Judged
     Judged::Sound
 }
 
-// The refusal that a word at position i meets; a place meets no others than those of places.
+// The refusal that a word at position i meets; a place meets no other than 2, 4 and 16.
 pub fn judge(s: ScanState, word: u32, i: usize) -> Judged
     ensures { λ r. ⌜ readingOf r ≡ unlessFault (fault s word) i sound ⌝ }
 {
@@ -135,7 +135,7 @@ pub fn judge(s: ScanState, word: u32, i: usize) -> Judged
     Judged::Sound
 }
 
-// What is told once a word is added.
+// The state of the scan after one more word.
 pub fn next(s: ScanState, word: u32) -> ScanState
     requires { ⌜ s .lifts ≤ longest ⌝ }
     ensures { λ r. ⌜ r ≡ nextOf s word ⌝ }

@@ -30,7 +30,7 @@ impl Sheet {
     pub const NOT_COUNTED: u64 = 0x1F_FFFF;
     // Three words for each lift, a held word for each old round, and the end word.
     pub const LONGEST: usize = 3 * Self::MOST_LIFTS + Self::MOST_ROUNDS + 1;
-    // How many numbers a table by round has: rounds from 0 up.
+    // The length of a table by round, from round 0 up.
     pub const TABLE: usize = Self::MOST_ROUNDS + 1;
 
     // How many payloads there are, and how many measures.
@@ -38,7 +38,7 @@ impl Sheet {
 
     const MEASURES: u32 = 0x20_0000;
 
-    // How many rounds a place may tell: 0, and those from 1 up.
+    // How many round numbers a place may have: 0, and those from 1 up.
     const ROUNDS: u32 = Self::TABLE as u32;
 
     // The kinds.

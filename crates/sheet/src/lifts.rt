@@ -8,7 +8,7 @@ ghost use Rattle.sheet.specs.Reading.{Legible};
 ghost use Rattle.sheet.specs.Lift.{filledIn as filledInOf, MarkSound, entryOf};
 use crate::Sheet;
 
-// A lift as its words tell it: its number, old round and measure, new round and the new measure that counts, and whether it is held.
+// A lift read from its words: its number, old round and measure, new round and the new measure that counts, and whether it is held.
 pub struct Entry {
     pub number: u32,
     pub from: usize,
@@ -18,7 +18,7 @@ pub struct Entry {
     pub held: bool,
 }
 
-// The new measure that counts, from both as they are written.
+// The new measure that counts, from both measures as written.
 fn filled_in(old: u64, new: u64) -> u64
     ensures { λ r. ⌜ r ≡ filledInOf old new ⌝ }
 {

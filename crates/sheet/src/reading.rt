@@ -13,7 +13,7 @@ use crate::faults::judge;
 use crate::faults::next;
 use reply::Refusal;
 
-// Whether a word tells a place of a kind: a round from 1 to 100 with a measure that is counted, or neither.
+// Whether a word is of a kind and holds a place whose measure is counted: of a round from 1 to 100, or round 0 with measure 0.
 fn is_counted_place(kind: u32, word: u32) -> bool
     requires { ⌜ kind < 16 ⌝ }
     ensures { λ r. ⌜ (r ≡ true → (kindOf word ≡ kind) × (misplacedOf word ≡ false) × (placeOf word .measure ≤ largestSum)) ⌝ }
@@ -30,7 +30,7 @@ fn is_counted_place(kind: u32, word: u32) -> bool
     none <= word && word < none + Sheet::ROUNDS * Sheet::MEASURES
 }
 
-// Whether three words are those of a lift, and each meets no refusal after those before it.
+// Whether three words are the lift, the old place and the new place of a lift, and none of them meets a refusal.
 fn is_sound_lift(s: ScanState, lift: u32, old: u32, new: u32) -> bool
     ensures { λ r. ⌜ (r ≡ true → (fault s lift ≡ 0) × (fault (nextOf s lift) old ≡ 0) × (fault (nextOf (nextOf s lift) old) new ≡ 0)) ⌝ }
 {
@@ -49,7 +49,7 @@ fn is_sound_lift(s: ScanState, lift: u32, old: u32, new: u32) -> bool
     is_counted_place(Sheet::NEW, new)
 }
 
-// The first faulty word of words that are not too many; a lift of which none is takes one turn.
+// The first faulty word of words that are not too many; three sound words of a lift are read in one turn.
 fn read_words(sheet: &[u32]) -> Judged
     requires { ⌜ length (now sheet) ≤ longest ⌝ }
     ensures { λ r. ⌜ readingOf r ≡ reading (now (sheet .entry)) ⌝ }
@@ -88,7 +88,7 @@ fn read_words(sheet: &[u32]) -> Judged
     Judged::Faulty(Refusal::Sequence(i))
 }
 
-// The answer to words alone, their length included: one of the refusals 1 to 6 and 16, or sound.
+// The answer to words alone: one of the refusals 1 to 6 and 16, or sound.
 pub fn read(sheet: &[u32]) -> Judged
     ensures { λ r. ⌜ readingOf r ≡ ofWords (now (sheet .entry)) ⌝ }
 {

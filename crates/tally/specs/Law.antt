@@ -1,4 +1,4 @@
--- What is proved of lists of lifts and of sheets as a whole: which fit, and what is answered to a sheet with its tables.
+-- Which lifts and which sheets fit, and what is proved of the verdict and of the answer with the tables.
 use Prim.Native.Nat.{ℕ, _≤_, _<_}
 use mathlib.Core.Path.{_≡_}
 use mathlib.Core.Bool.{Bool, false}
@@ -28,7 +28,7 @@ pub record RoundsFit (ls : List Lift) : Type 0 where
   pub measured : Nowhere (zeroSum ls)
   pub donors : Nowhere (tooManyDonors ls)
 
--- lifts fit when a sheet can tell them and none of the refusals of rounds applies
+-- lifts fit when they are well-formed and none of the refusals of rounds applies
 pub record Fit (ls : List Lift) : Type 0 where
   pub wellFormed : WellFormed ls
   pub rounds : RoundsFit ls
@@ -50,7 +50,7 @@ DecidedTheorem = (ws : List ℕ) → Decided ws
 
 -- ---- the answer with the tables
 
--- what is answered to a sheet: the verdict and, of a sheet that fits, its tables
+-- the answer to a sheet: the verdict and, if the sheet fits, its tables
 pub record VerdictAndTables (ws : List ℕ) (e : Examined) : Type 0 where
   pub verdict : verdictOf (e .checked) ≡ verdict ws
   pub tables : Fitting ws → Tabled (lifts ws) (e .tallies)

@@ -8,7 +8,7 @@ use Rattle.probability.specs.Initial.{Initial, here, elsewhere}
 use Rattle.sheet.specs.Sheet.{mostRounds, Lift}
 use Rattle.sheet.specs.Lift.{placeAt, Side}
 
--- those of the n numbers from a up that pass a test, rising
+-- those of the numbers a to a + n - 1 that pass a test
 unfoldable pub filterRange : (ℕ → Bool) → ℕ → ℕ → List ℕ
 filterRange p a zero = []
 filterRange p a (suc n) = cond (p a) (a ∷ filterRange p (suc a) n) (filterRange p (suc a) n)
@@ -33,7 +33,7 @@ sumOf side r ls = totalBy (λ l. placeAt side l .round) (λ l. placeAt side l .m
 abbrev pub heldCount : ℕ → List Lift → ℕ
 heldCount r ls = totalBy (λ l. l .old .round) (λ l. indicator (l .held)) r ls
 
--- whether a lift comes from old round t to new round r with an old measure above 0
+-- whether a lift brings an old measure above 0 from old round t to new round r
 abbrev pub brings : ℕ → ℕ → Lift → Bool
 brings t r l = eqb (l .old .round) t && (eqb (l .new .round) r && ltb 0 (l .old .measure))
 
@@ -46,7 +46,7 @@ sends t r (l ∷ ls) = brings t r l || sends t r ls
 abbrev pub donors : ℕ → List Lift → List ℕ
 donors r ls = rounds (λ t. sends t r ls)
 
--- 1 for the first of some donors, 2 for the second, 0 for another old round: "The lower-numbered donor is donor 1."
+-- the number of an old round among the donors, 0 if it is none: "The lower-numbered donor is donor 1."
 abbrev pub donorNumber : List ℕ → ℕ → ℕ
 donorNumber [] t = 0
 donorNumber (d ∷ []) t = cond (eqb d t) 1 0

@@ -23,16 +23,16 @@ tabulate (suc n) f = f 0 ∷ tabulate n (λ i. f (suc i))
 abbrev pub table : (ℕ → ℕ) → List ℕ
 table f = tabulate (mostRounds + 1) f
 
--- the number of n bits in which bit t is set where t passes a test
+-- the number whose bit t, for t below n, is set if t passes a test
 unfoldable pub bits : ℕ → (ℕ → Bool) → ℕ
 bits zero p = 0
 bits (suc n) p = indicator (p 0) + 2 * bits n (λ t. p (suc t))
 
--- the bit of an old round in its word of 64, for a lift of some measure
+-- the bit of an old round in its word of 64 bits, if a lift brings measure from it
 abbrev pub bitOf : (round measure : ℕ) → ℕ
 bitOf round measure = bits 64 (λ t. eqb (round % 64) t && ltb 0 measure)
 
--- for each new round two words, with a bit for each of the old rounds from 0 up and from 64 up: whether it is a donor
+-- two words for each new round, with a bit for each old round, 0 to 63 and 64 to 127, that is set if it is a donor
 abbrev pub donorBits : List Lift → List ℕ
 donorBits ls = tabulate (2 * (mostRounds + 1)) (λ k. bits 64 (λ t. sends (64 * (k % 2) + t) (k / 2) ls))
 

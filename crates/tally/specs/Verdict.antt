@@ -15,14 +15,14 @@ use Rattle.tally.specs.declared.Rule.the-variants.{OneHeld, SmallSum, So
 use Rattle.tally.specs.declared.Checked.{Checked}
 use Rattle.tally.specs.declared.Checked.the-variants.{Refused, Fits}
 
--- what is said of a sheet: a refusal's number and place, or that it fits, with how many lifts and new rounds it has
+-- the verdict on a sheet: a refusal by number and place, or that it fits, with how many lifts and new rounds it has
 pub data Verdict : Type 0 where
   refused : Numbered → Verdict
   fits : (lifts rounds : ℕ) → Verdict
 
--- ---- the refusals of rounds; those of words are in Reading.antt
+-- ---- the refusals of rounds (those of words: Reading.antt of `sheet`)
 
--- whether a round breaks a rule, from how many lifts name it and one number more: its held lifts, its sum or its donors
+-- whether a round breaks a rule, from how many lifts name it and the number that the rule is about: held lifts, sum or donors
 abbrev pub breaks : Rule → ℕ → ℕ → Bool
 breaks OneHeld lifts held = ltb 0 lifts && not (eqb held 1)
 breaks SmallSum lifts sum = ltb largestSum sum
@@ -47,7 +47,7 @@ tooManyDonors ls r = breaks FewDonors (liftCount New r ls) (length (donors r ls)
 
 -- ---- their order
 
--- a refusal of the first of the rounds that it meets, if it meets any, else what follows
+-- refusal n of the first of the rounds that meet it, if there is one, else what follows
 unfoldable pub firstRound : ℕ → List ℕ → Verdict → Verdict
 firstRound n [] v = v
 firstRound n (r ∷ rs) v = refused (numbered n r)
@@ -67,7 +67,7 @@ abbrev pub unlessFaulty : Reading → Verdict → Verdict
 unlessFaulty (faulty x) v = refused x
 unlessFaulty sound v = v
 
--- the words, "then" the rounds
+-- the refusals of the words, "then" those of the rounds
 unfoldable pub verdict : List ℕ → Verdict
 verdict ws = unlessFaulty (ofWords ws) (ofRounds (lifts ws))
 
@@ -78,7 +78,7 @@ ofVerdict (fits n rounds) reply = reply rounds
 
 -- ---- the code's answer
 
--- what the answer to a sheet says
+-- the verdict that an answer to a sheet stands for
 abbrev pub verdictOf : Checked → Verdict
 verdictOf (Refused x) = refused (refusalOf x)
 verdictOf (Fits s) = fits (s .lifts) (s .rounds)

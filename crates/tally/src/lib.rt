@@ -29,8 +29,8 @@ enum Rule {
     FewDonors,
 }
 
-// Tables by round: of each old round how many lifts it has, how many of them are held, and its sum; of each new round how many lifts
-// it has, its sum, and two words with a bit for each old round, whether it is a donor.
+// Tables by round. For each old round: how many lifts it has, how many of them are held, and its sum. For each new round: how many
+// lifts it has, its sum, and two words with a bit for each old round that is a donor.
 pub struct Tallies {
     pub old_lifts: [u64; Sheet::TABLE],
     pub held: [u64; Sheet::TABLE],
@@ -46,7 +46,7 @@ pub struct Examined {
     pub tallies: Tallies,
 }
 
-// A round or a place that is looked for.
+// What a search finds: a number, or nothing.
 pub enum Found {
     At(usize),
     Nothing,
@@ -54,7 +54,7 @@ pub enum Found {
 
 // ---- the tables
 
-// The bit of an old round in its word, for a lift of some measure.
+// The bit of an old round in its word, if a lift brings measure from it.
 fn bit(round: usize, measure: u64) -> u64
     ensures { λ r. ⌜ r ≡ bitOf round measure ⌝ }
 {
@@ -118,7 +118,7 @@ fn breaks(rule: Rule, lifts: u64, n: u64) -> bool
     }
 }
 
-// The first round that breaks a rule, from the tables of both numbers.
+// The first round that breaks a rule, from both tables.
 fn first_breaking<'a>(
     rule: Rule,
     lifts: &'a [u64; Sheet::TABLE],
@@ -209,7 +209,7 @@ fn check_rounds(sheet: &[u32], t: Tallies) -> Checked
     })
 }
 
-// A refusal of words, which have no tables.
+// A refusal of words, with empty tables.
 fn refuse(x: Refusal) -> Examined
     ensures { λ r. ⌜ r .checked ≡ Checked.Refused x ⌝ }
 {

@@ -1,4 +1,4 @@
--- `panel::choose_fitting` meets its contract: what lacks is told, and where nothing does, the choices are the panel's. Assumes nothing.
+-- `panel::choose_fitting` meets its contract: what is lacking is answered, and where nothing is, the choices are the panel's. Assumes nothing.
 use mathlib.Core.Path.{_≡_, sym, _∙_}
 use Prim.Native.Nat.{_*_, _≤_}
 use lib.ListN.{length}
@@ -8,7 +8,8 @@ use Rattle.sheet.specs.Lift.{New}
 use Rattle.tally.proofs.Verdicts.{fit, in-use}
 use Rattle.reply.specs.Refusal.{replyOf}
 use Rattle.selection.proofs.Choices.{few-rounds}
-use Rattle.panel.proofs.Answers.{onward, writable, left, lacks, suffices, through}
+use Rattle.panel.proofs.Answers.{onward, writable, lacks, suffices, through}
+use Rattle.reply.proofs.Replies.{left}
 use borrow.Author.Needs.{needs}
 use Rattle.panel.proofs.choose_fitting.Statement.{statement}
 use Rattle.panel.proofs.choose_fitting.Tie as tie

@@ -1,4 +1,4 @@
--- `panel::choose_next_fitting` meets its contract: what lacks is told, and where nothing does, both outputs are the panel's. Assumes
+-- `panel::choose_next_fitting` meets its contract: what is lacking is answered, and where nothing is, both outputs are the panel's. Assumes
 -- nothing.
 use native.Mathlib.Omega.{arith}
 use mathlib.Core.Path.{_≡_, sym, _∙_}

@@ -1,20 +1,20 @@
--- `report::put_text` meets its contract: the files are decoded, and what `choose` ensures tells the text. Assumes nothing.
+-- `report::put_text` meets its contract: the files are decoded, and what `choose` ensures gives the text. Assumes nothing.
 use mathlib.Core.Path.{refl, sym, _∙_}
 use Rattle.reply.specs.Refusal.{replyOf}
 use Rattle.report.specs.Report.{sheetWords, randomWords}
 use Rattle.report.proofs.Words.{random-le, lent}
-use Rattle.report.proofs.Reports.{Told, text-told}
+use Rattle.report.proofs.Reports.{TextIs, text-is}
 use borrow.Author.Needs.{needs}
 use Rattle.report.proofs.put_text.Statement.{statement}
 use Rattle.report.proofs.put_text.Tie as tie
 
--- the answer and the output words tell the text
-told-of : (c : tie.After-choose) → Told (sheetWords (c .before .before .before .before .before .before .before .before .before .before .before .before .before .args .sheet .now)) (randomWords (c .before .before .before .before .before .before .before .before .before .before .before .before .before .args .words .now)) (replyOf (c .choose .result)) (c .choose .last .1 .1 .1 .0)
-told-of c =
+-- the answer and the output words give the text
+text-of : (c : tie.After-choose) → TextIs (sheetWords (c .before .before .before .before .before .before .before .before .before .before .before .before .before .args .sheet .now)) (randomWords (c .before .before .before .before .before .before .before .before .before .before .before .before .before .args .words .now)) (replyOf (c .choose .result)) (c .choose .last .1 .1 .1 .0)
+text-of c =
     let e = c .choose .ensures in
     let s = c .before .before .before .before .before .before .before .before .sheet-words .ensures in
     let w = c .before .before .before .before .before .random-words .ensures in
-    text-told _ _ (replyOf (c .choose .result)) _ (rw (s .is, w .is) at (e .0)) (random-le (c .before .before .before .before .before .before .before .before .before .before .before .before .before .args .words .now)) refl (search needs) (rw (s .is, w .is) at (e .1 .0))
+    text-is _ _ (replyOf (c .choose .result)) _ (rw (s .is, w .is) at (e .0)) (random-le (c .before .before .before .before .before .before .before .before .before .before .before .before .before .args .words .now)) refl (search needs) (rw (s .is, w .is) at (e .1 .0))
 
 slice-aggregate-sheet-words : tie.Need-slice-aggregate-sheet-words
 slice-aggregate-sheet-words c = search needs
@@ -50,7 +50,7 @@ slice-aggregate-put-answer : tie.Need-slice-aggregate-put-answer
 slice-aggregate-put-answer c = search needs
 
 put-answer-requires : tie.Need-put-answer-requires
-put-answer-requires c κs = (told-of (c .before .before .before) .ready, search needs)
+put-answer-requires c κs = (text-of (c .before .before .before) .ready, search needs)
 
 same-length : tie.Need-same-length
 same-length c = search needs
@@ -58,7 +58,7 @@ same-length c = search needs
 returns : tie.Need-returns
 returns c =
     let e = c .before .before .put-answer .ensures in
-    (e .0 ∙ sym (told-of (c .before .before .before .before .before .before) .is), e .1)
+    (e .0 ∙ sym (text-of (c .before .before .before .before .before .before) .is), e .1)
 
 pub put-text-spec : {M : Type 1} → statement M
 put-text-spec =

@@ -21,21 +21,21 @@ from5 s w = cond (miscounted s w) 5 (from6 s w)
 abbrev from3 : ScanState → ℕ → ℕ
 from3 s w = cond (misnumbered s w) 3 (from5 s w)
 
--- the word is in sequence, and whether it tells a place
+-- the word is in sequence, and whether it holds a place
 in-sequence : (c : tie.Else1) → let a = c .before .before .before .args in mayFollow (a .s .kind) (kind (a .word)) ≡ true
 in-sequence c = rw (← c .before .before .kind .ensures, ← c .before .follows .ensures) (not-false (c .before .follows .result) (c .if1 .left))
 
-tells : (c : tie.After-is-place) → c .is-place .result ≡ isPlace (kind (c .before .before .before .before .args .word))
-tells c = c .is-place .ensures ∙ ap isPlace (c .before .before .before .kind .ensures)
+is-place-of : (c : tie.After-is-place) → c .is-place .result ≡ isPlace (kind (c .before .before .before .before .args .word))
+is-place-of c = c .is-place .ensures ∙ ap isPlace (c .before .before .before .kind .ensures)
 
 -- of a place
 of-place : (c : tie.Then2) → let a = c .before .before .before .before .before .args in
     fault (a .s) (a .word) ≡ cond (misplaced (a .word)) 4 (cond (uncountedNewcomer (a .s) (a .word)) 16 0)
-of-place c = place-fault _ _ (in-sequence (c .before .before)) (sym (tells (c .before)) ∙ c .if2 .taken)
+of-place c = place-fault _ _ (in-sequence (c .before .before)) (sym (is-place-of (c .before)) ∙ c .if2 .taken)
 
 -- where those before do not apply
 past4 : (c : tie.Else2) → let a = c .before .before .before .before .before .args in fault (a .s) (a .word) ≡ from3 (a .s) (a .word)
-past4 c = other-fault _ _ (in-sequence (c .before .before)) (sym (tells (c .before)) ∙ c .if2 .left)
+past4 c = other-fault _ _ (in-sequence (c .before .before)) (sym (is-place-of (c .before)) ∙ c .if2 .left)
 
 past3 : (c : tie.Else3) → let a = c .before .before .before .before .before .before .before .args in fault (a .s) (a .word) ≡ from5 (a .s) (a .word)
 past3 c = rw (past4 (c .before .before), ← c .before .misnumbered .ensures, c .if3 .left)

@@ -1,4 +1,4 @@
--- `sheet::entry_at` meets its contract: a lift's words tell what it is. Assumes nothing.
+-- `sheet::entry_at` meets its contract: the lift is read from its words. Assumes nothing.
 use mathlib.Core.Path.{refl}
 use Rattle.sheet.proofs.lifts.Lifts.{entry-read}
 use borrow.Author.Needs.{needs}
