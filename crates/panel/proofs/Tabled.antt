@@ -59,7 +59,7 @@ unfolding byRound
 byRound-first f c cs d xs h =
     byRound-below f (suc (c .round)) cs d (set xs (c .round) (f c)) (c .round) (omega arith) ∙ getD-set-same xs (c .round) (f c) 0 h
 
--- tables of so many places, with no outcome from round r up
+-- tables that have no outcome from round r up
 record Clear (r : ℕ) (xs ys : List ℕ) : Type 0 where
   pub numbers : length xs ≡ mostRounds + 1
   pub outcomes : length ys ≡ mostRounds + 1

@@ -93,7 +93,7 @@ ended s i [] e h = refl
 ended s i (w ∷ ws) e h = absurd (false≢true (rw e at (first-passes s i w ws h .0 .order)))
 
 -- the words of lifts and the end, perhaps behind a held mark of the lift before
-record Told (s : ScanState) (ws : List ℕ) : Type 0 where
+record Parsed (s : ScanState) (ws : List ℕ) : Type 0 where
   held : Bool
   mark : held ≡ true → (eqb (s .kind) newKind ≡ true) × (0 < placeOf (s .old) .measure)
   list : List Lift
@@ -102,14 +102,14 @@ record Told (s : ScanState) (ws : List ℕ) : Type 0 where
   back : marked held (wordsThen list (word endKind (s .lifts + length list) ∷ [])) ≡ ws
 
 -- behind another word than a new place there is no mark
-unmarked : {s : ScanState} {ws : List ℕ} (t : Told s ws) → eqb (s .kind) newKind ≡ false → wordsThen (t .list) (word endKind (s .lifts + length (t .list)) ∷ []) ≡ ws
+unmarked : {s : ScanState} {ws : List ℕ} (t : Parsed s ws) → eqb (s .kind) newKind ≡ false → wordsThen (t .list) (word endKind (s .lifts + length (t .list)) ∷ []) ≡ ws
 unmarked t e = rw (not-eq-not {b = false} .0 (λ h. true≢false (sym (t .mark h .0) ∙ e))) at (t .back)
 
 -- by the kind of the first word: a lift, the end or a held mark
 by-kind : (s : ScanState) (i w : ℕ) (ws : List ℕ) → Free (s .kind) → readFrom s i (w ∷ ws) ≡ sound
-    → (kind w ≡ liftKind → s .number < payload w → readFrom (state liftKind (payload w) (s .old) (s .lifts + 1)) (i + 1) ws ≡ sound → Told s (w ∷ ws))
-    → (readFrom (state heldKind (s .number) (s .old) (s .lifts)) (i + 1) ws ≡ sound → Told (state heldKind (s .number) (s .old) (s .lifts)) ws)
-    → Told s (w ∷ ws)
+    → (kind w ≡ liftKind → s .number < payload w → readFrom (state liftKind (payload w) (s .old) (s .lifts + 1)) (i + 1) ws ≡ sound → Parsed s (w ∷ ws))
+    → (readFrom (state heldKind (s .number) (s .old) (s .lifts)) (i + 1) ws ≡ sound → Parsed (state heldKind (s .number) (s .old) (s .lifts)) ws)
+    → Parsed s (w ∷ ws)
 unfolding wordsThen AllWellFormed
 by-kind s i w ws o h lift held =
     let f = first-passes s i w ws h in
@@ -130,7 +130,7 @@ by-kind s i w ws o h lift held =
 -- and the words of one lift more before them
 lift-read : (s : ScanState) (w v u : ℕ) (ws : List ℕ) → kind w ≡ liftKind → s .number < payload w → kind v ≡ oldKind → PlaceWellFormed oldKind (placeOf v) → kind u ≡ newKind
     → PlaceWellFormed newKind (placeOf u) → (placeOf v .round ≡ 0 → placeOf u .measure ≡ notCounted → ⊥)
-    → Told (state newKind (payload w) v (s .lifts + 1)) ws → Told s (w ∷ v ∷ u ∷ ws)
+    → Parsed (state newKind (payload w) v (s .lifts + 1)) ws → Parsed s (w ∷ v ∷ u ∷ ws)
 unfolding wordsThen AllWellFormed
 lift-read s w v u ws a l b old c new known t =
     let e : s .lifts + suc (length (t .list)) ≡ s .lifts + 1 + length (t .list) = omega arith in
@@ -143,8 +143,8 @@ lift-read s w v u ws a l b old c new known t =
       back = rw e (ap₂ _∷_ (omega arith) (ap₂ _∷_ (omega arith) (ap₂ _∷_ (omega arith) (t .back))));
     }
 
--- words that pass are such words
-parse : (s : ScanState) (i : ℕ) (ws : List ℕ) → Free (s .kind) → readFrom s i ws ≡ sound → Told s ws
+-- words that pass are the words of lifts
+parse : (s : ScanState) (i : ℕ) (ws : List ℕ) → Free (s .kind) → readFrom s i ws ≡ sound → Parsed s ws
 parse s i [] o h = absurd (not-ended s i (ne-eqb (s .kind) endKind (λ e. false≢true (rw e at (o liftKind)))) h)
 parse s i (w ∷ []) o h = by-kind s i w [] o h (λ a l g. absurd (not-ended _ _ refl g)) (parse _ _ [] (λ j. refl))
 parse s i (w ∷ v ∷ []) o h =
@@ -268,7 +268,7 @@ written-theorem ls h =
 pub read-theorem : ReadBackTheorem
 read-theorem ws h = rw (← back) (record { back = ap sheetOf again; wellFormed = rw again wellFormed })
   where
-    t : Told startState ws
+    t : Parsed startState ws
     t = parse startState 0 ws (λ j. refl) h
 
     wellFormed : WellFormed (t .list)
