@@ -57,10 +57,11 @@ heldOfRound r ls = heldAmong (λ t. heldAt t (ofRound r ls)) (donors r ls)
 unfoldable pub planOf : ℕ → List Lift → Plan Selection
 planOf r ls = plan (donorsOf r ls) (liftsOf r ls) (heldOfRound r ls)
 
--- the lift at a place of new round r
+-- stands where there is no lift
 abbrev pub noLift : Lift
 noLift = record { number = 0; old = record { round = 0; measure = 0 }; new = record { round = 0; measure = 0 }; held = false }
 
+-- the lift at a place of new round r
 unfoldable pub liftInRound : ℕ → List Lift → ℕ → Lift
 liftInRound r ls i = getD (ofRound r ls) i noLift
 
