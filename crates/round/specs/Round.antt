@@ -73,7 +73,7 @@ AreDonors None ls = Unit {0}
 AreDonors (One T) ls = IsDonor 1 T ls
 AreDonors (Two T₁ T₂) ls = IsDonor 1 T₁ ls × IsDonor 2 T₂ ls
 
--- so is every round of a fitting sheet: its sum is above 0 (refusal 9), and each donor sends it measure
+-- the sum of the round is above 0 (refusal 9), and each donor sends it measure; every round of a fitting sheet is well-posed
 pub record WellPosed (ds : Donors) (ls : List Lift) : Type 0 where
   pub positive : 0 < S ls
   pub donate : AreDonors ds ls

@@ -115,7 +115,7 @@ reading ws = readFrom startState 0 ws
 abbrev pub ofWords : List ℕ → Reading
 ofWords ws = cond (mislong ws) (faulty (numbered 1 (length ws))) (reading ws)
 
--- none of the refusals 1 to 6 and 16 applies: there are not too many words, and none is faulty; a sheet without words has no end, and is
+-- none of the refusals 1 to 6 and 16 applies: there are not too many words, and the reading is sound (so there is a word, the end)
 pub record Legible (ws : List ℕ) : Type 0 where
   pub short : length ws ≤ longest
   pub read : reading ws ≡ sound
