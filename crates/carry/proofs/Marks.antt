@@ -13,9 +13,11 @@ use Rattle.sheet.specs.Sheet.{mostRounds, Lift}
 use Rattle.tally.specs.Rounds.{liftCount, inUse}
 use Rattle.tally.specs.Law.{Fit}
 use Rattle.sheet.specs.Lift.{Old, New}
+use Rattle.tally.specs.Verdict.{crowded}
 use Rattle.tally.proofs.Sending.{tooManyDonors-count}
+use Rattle.tally.proofs.Verdicts.{donors-fit}
 use Rattle.tally.proofs.Ranges.{filter-in}
-use Rattle.selection.specs.Choice.{Choice, liftInRound}
+use Rattle.selection.specs.Choice.{fourth, Choice, liftInRound}
 use Rattle.selection.specs.Initial.{marked}
 use Rattle.selection.proofs.Naming.{Selected, none as selected-none, some as selected-some}
 use Rattle.selection.proofs.MarkedFits.{Unmarked, fit-marked}
@@ -39,7 +41,6 @@ unmarked {ls} f =
       old = λ r l h. rw (sumOf-next noneHeld Old r l ls) (f .rounds .new r l h);
       new = λ r l h. rw (sumOf-next noneHeld New r l ls) (f .rounds .new r l h);
       measured = λ r l h. rw (named-next noneHeld New r l ls, sumOf-next noneHeld New r l ls) (f .rounds .measured r l h);
-      donors = λ r l h. tooManyDonors-count (carriedOn noneHeld ls) r ∙ few-donors noneHeld r l h ls;
     }
 
 -- a lift of a new round is carried on
@@ -73,7 +74,7 @@ record Marks (ls : List Lift) (rs : List ℕ) (cs : List Choice) : Type 0 where
   selected : Selected (carriedOn noneHeld ls) rs lifts
   same : map (λ l. l .number) lifts ≡ map (λ c. c .number) cs
 
-marks : {ls : List Lift} → Fit ls → {ws : List ℕ} {from next : ℕ} {rs : List ℕ} {cs : List Choice} → All (Used ls) rs → Steps ls ws from rs cs next → Marks ls rs cs
+marks : {ls : List Lift} → Fit ls → {ws : List ℕ} {from next : ℕ} {rs : List ℕ} {cs : List Choice} → All (Used ls) rs → Steps fourth ls ws from rs cs next → Marks ls rs cs
 marks f u none = record { lifts = []; selected = selected-none; same = refl }
 marks {ls} f {ws} {from} u (some {r = r} {s = s} q k) =
     let used = u r (List·Memᴰ·head refl) in
@@ -94,8 +95,10 @@ marked-next m cs e [] = refl
 marked-next m cs e (u ∷ us) = ap₂ (λ h ls. carried (λ _. h) u ∷ ls) (ap (among (u .number)) e) (marked-next m cs e us)
 
 -- next quarter's lifts fit
-pub fit-next : {ls : List Lift} → Fit ls → {ws : List ℕ} {from next : ℕ} {cs : List Choice} → Steps ls ws from (inUse New ls) cs next → Fit (nextLifts cs ls)
+pub fit-next : {ls : List Lift} → Fit ls → {ws : List ℕ} {from next : ℕ} {cs : List Choice} → Steps fourth ls ws from (inUse New ls) cs next → Fit (nextLifts cs ls)
 fit-next {ls} f {cs = cs} k =
     let m = marks f (all-used ls) k in
     let s : Selected (carriedOn noneHeld ls) (inUse Old (carriedOn noneHeld ls)) (m .lifts) = rw (inUse-next noneHeld Old ls) (m .selected) in
-    subst Fit (marked-next (m .lifts) cs (m .same) (remaining ls)) (fit-marked (unmarked f) s)
+    let next = marked-next (m .lifts) cs (m .same) (remaining ls) in
+    subst Fit next
+    (fit-marked (unmarked f) s (ap crowded next ∙ donors-fit (nextLifts cs ls) (λ r l h. tooManyDonors-count (nextLifts cs ls) r ∙ few-donors (isChosen cs) r l h ls)))

@@ -9,9 +9,10 @@ use Rattle.probability.specs.Sum.{total, totalBy}
 use Rattle.probability.specs.Plan.{done, bind}
 use Rattle.probability.proofs.Lists.{All}
 use Rattle.round.specs.Round.{S, U, D, measureFrom, oldWeight, newWeight, weights, weightAt}
-use Rattle.round.specs.Choice.{selection, preliminaryBy, stayOr, keyfitz, select, plan}
+use Rattle.probability.specs.Initial.{here}
+use Rattle.probability.specs.Side.{join, updateOr}
+use Rattle.round.specs.Choice.{selection, single, preliminaryBy, stayOr, keyfitz, planBy, plan}
 use Rattle.round.specs.declared.Donors.the-variants.{One}
-use Rattle.round.specs.declared.Held.the-variants.{Single}
 use Rattle.round.specs.declared.Lift.{Lift}
 
 pub record Still (l : Lift) : Type 0 where
@@ -25,8 +26,8 @@ still-sums (u ∷ us) h =
     let s = h u (List·Memᴰ·head refl) in
     ap₂ _+_ (rw (eq-eqb (u .donor) 1 (s .donor)) (s .same)) (still-sums us (λ l m. h l (List·Memᴰ·tail m)))
 
-pub still-plan : (T : ℕ) (us : List Lift) → All Still us → (i : ℕ) → plan (One T) us (Single i) ≡ done (selection i false)
-unfolding plan bind preliminaryBy select keyfitz stayOr weights oldWeight newWeight D
+pub still-plan : (T : ℕ) (us : List Lift) → All Still us → (i : ℕ) → plan (One T) us (here i ∷ []) ≡ done (selection i false)
+unfolding planBy preliminaryBy single join updateOr bind keyfitz stayOr weights oldWeight newWeight D
 still-plan T us h i = rw (le-leb _ _ (no-loss us h i))
   where
     no-loss : (vs : List Lift) → All Still vs → (i : ℕ)

@@ -16,6 +16,7 @@ use Rattle.sheet.specs.Lift.{placeAt, New}
 use Rattle.sheet.specs.Law.{AllWellFormed, Writable, AllWritable}
 use Rattle.sheet.proofs.Trips.{placed-writable, read-theorem, back-theorem}
 use Rattle.sheet.proofs.Legibility.{legible-words}
+use Rattle.tally.specs.Verdict.{crowded}
 use Rattle.tally.proofs.Verdicts.{decided, read-through}
 use Rattle.counts.specs.Text.{lines, CountLine, counted, malformed, countLine}
 use Rattle.probability.specs.Among.{among}
@@ -124,7 +125,7 @@ takes sheet text a b h =
     let v = read-through (ofLines (lifts sheet) (lines text)) _ (w .1) in
     let t = read-theorem sheet (legible-words (w .0) .read) .wellFormed in
     record {
-      fits = decided (renewed sheet text) .only a b (v .1) .0;
+      fits = decided crowded (renewed sheet text) .only a b (v .1) .0;
       back = back-theorem (map (measured (lines text)) (lifts sheet)) (all-writable (lines text) 0 (lifts sheet) (t .listed)) (rw (length-map (lifts sheet) (measured (lines text))) (omega (arith, t .few)));
       each = λ i l. each-line (numbersOf (lifts sheet)) [] 1 (lines text) (v .0) i l .taken;
     }

@@ -10,7 +10,7 @@ use Rattle.reply.specs.Reply.{numbered, Reply, replied, ofRefusal, unlessRefuse
 use Rattle.reply.proofs.Replies.{left}
 use Rattle.probability.specs.Among.{among}
 use Rattle.sheet.specs.Reading.{Reading, faulty, ofWords, Legible, readingOf}
-use Rattle.tally.specs.Verdict.{refused, fits, unlessFaulty, verdict, verdictOf, ofVerdict}
+use Rattle.tally.specs.Verdict.{refused, fits, crowded, unlessFaulty, verdict, verdictOf, ofVerdict}
 use Rattle.reply.specs.Refusal.{refusalOf}
 use Rattle.sheet.specs.Law.{AllWellFormed}
 use Rattle.sheet.proofs.Trips.{read-theorem}
@@ -62,7 +62,7 @@ module _ (n : ℕ) (old ws : List ℕ) {r : Checked} (h : verdictOf r ≡ verdic
   pub finish-refused : {x : Refusal} → r ≡ Refused x → (ofRefusal (refusalOf x) ≡ ofVerdict (verdict ws) (λ _. replied n 0)) × (old ≡ unlessRefused (ofVerdict (verdict ws) (λ _. replied n 0)) old ws)
   finish-refused {x} e =
       let v : refused (refusalOf x) ≡ verdict ws = sym (ap verdictOf e) ∙ h in
-      left old ws (λ z. omega (arith, decided ws .above (refusalOf x) (sym v), z)) (rw (← v))
+      left old ws (λ z. omega (arith, decided crowded ws .above (refusalOf x) (sym v), z)) (rw (← v))
 
   pub finish-fits : {out : List ℕ} {s : Sheet} → r ≡ Fits s → out ≡ ws → (replied n 0 ≡ ofVerdict (verdict ws) (λ _. replied n 0)) × (out ≡ unlessRefused (ofVerdict (verdict ws) (λ _. replied n 0)) old ws)
   finish-fits {out} {s} e q = let v : fits (s .lifts) (s .rounds) ≡ verdict ws = sym (ap verdictOf e) ∙ h in (rw (← v), rw (← v) q)

@@ -1,12 +1,12 @@
 -- One law for each way out of the calls.
 use Prim.Native.Nat.{ℕ}
 use mathlib.Core.Path.{_≡_, refl}
-use mathlib.Core.Bool.{true, false}
+use mathlib.Core.Bool.{Bool, true, false}
 use mathlib.Core.List.{List}
 use Rattle.draw.specs.declared.Drawn.{Drawn}
 use Rattle.draw.specs.declared.Drawn.the-variants.{Value, Short}
-use Rattle.round.specs.Choice.{selected}
-use Rattle.round.specs.Rows.{Callable}
+use Rattle.round.specs.Choice.{isHeld, outcome, selected}
+use Rattle.round.specs.Rows.{initials, Callable}
 use Rattle.round.specs.declared.Donors.{Donors}
 use Rattle.round.specs.declared.Held.{Held}
 use Rattle.round.specs.declared.Lift.{Lift}
@@ -22,11 +22,11 @@ replied-value e = rw (← e) (record { result = refl; value-written = refl; next
 pub replied-short : {d : Drawn} {x y : ℕ} → Short ≡ d → DrawReply d false x x y y
 replied-short e = rw (← e) (record { result = refl; value-written = refl; next-written = refl })
 
-pub chose-at : {s : Selected} {i o n x y z : ℕ} → At i o n ≡ s → RoundReply s true x i y o z n
-chose-at e = rw (← e) (record { result = refl; place-written = refl; outcome-written = refl; next-written = refl })
+pub chose-at : (h : Held) {s : Selected} {d : Bool} {i o n x y z : ℕ} → At i d n ≡ s → o ≡ outcome (isHeld (initials h) i) d → RoundReply h s true x i y o z n
+chose-at h e f = rw (← e, f) (record { result = refl; place-written = refl; outcome-written = refl; next-written = refl })
 
-pub chose-short : {s : Selected} {x y z : ℕ} → Ended ≡ s → RoundReply s false x x y y z z
-chose-short e = rw (← e) (record { result = refl; place-written = refl; outcome-written = refl; next-written = refl })
+pub chose-short : (h : Held) {s : Selected} {x y z : ℕ} → Ended ≡ s → RoundReply h s false x x y y z z
+chose-short h e = rw (← e) (record { result = refl; place-written = refl; outcome-written = refl; next-written = refl })
 
 pub answered-refused : {v : Verdict} {x : Numbered} {n p r : ℕ} → refused x ≡ v → n ≡ x .number → p ≡ x .place → CheckReply v n p r r
 answered-refused e h k = rw (← e) (record { result = h; place-written = k; rounds-written = refl })
@@ -42,6 +42,9 @@ by-numbers n a b e = rw (n, a, b) e
 pub by-enums : {ds ds′ : Donors} {h h′ : Held} {ls : List Lift} → ds ≡ ds′ → h ≡ h′ → Callable ds′ ls h′ → Callable ds ls h
 by-enums e f c = rw (e, f) c
 
-pub answer-by-enums : {ds ds′ : Donors} {h h′ : Held} (ls : List Lift) (ws : List ℕ) (from : ℕ) {s : Selected} → ds ≡ ds′ → h ≡ h′
-    → s ≡ selected ds ls h ws from → s ≡ selected ds′ ls h′ ws from
-answer-by-enums ls ws from e f g = rw (e, f) at g
+pub answer-by-enums : {ds ds′ : Donors} (h h′ : Held) (ls : List Lift) (ws : List ℕ) (from : ℕ) {s : Selected} → ds ≡ ds′ → h ≡ h′
+    → s ≡ selected ds ls (initials h) ws from → s ≡ selected ds′ ls (initials h′) ws from
+answer-by-enums h h′ ls ws from e f g = rw (e, f) at g
+
+pub outcome-by-enums : (h h′ : Held) (i o : ℕ) (d : Bool) {k : Bool} → k ≡ isHeld (initials h) i → h ≡ h′ → o ≡ outcome k d → o ≡ outcome (isHeld (initials h′) i) d
+outcome-by-enums h h′ i o d e f g = rw (e, f) at g

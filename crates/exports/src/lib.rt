@@ -3,18 +3,19 @@ ghost use mathlib.Core.Path.{_≡_};
 ghost use lib.ListN.{length};
 ghost use Rattle.draw.specs.Draw.{largest, drawAt};
 ghost use Rattle.round.specs.Choice.{selected};
-ghost use Rattle.round.specs.Rows.{rowLifts, Callable};
+ghost use Rattle.round.specs.Rows.{rowLifts, initials, Callable};
 ghost use Rattle.tally.specs.Verdict.{verdict};
 ghost use Rattle.reply.specs.Reply.{numbers};
 ghost use Rattle.reply.specs.Refusal.{replyOf};
 ghost use Rattle.counts.specs.Counts.{countsReply, countsOutput};
-ghost use Rattle.selection.specs.Choice.{reply, output};
+ghost use Rattle.selection.specs.Choice.{fourth, reply, output};
 ghost use Rattle.carry.specs.Reply.{replyNext, outputNext, lentSheet};
 ghost use Rattle.exports.specs.Reply.{DrawReply, donorsFrom, heldFrom, RoundReply, CheckReply};
 use draw::Drawn;
 use reply::Answer;
 use round::Donors;
 use round::Held;
+use round::Seat;
 use round::Selected;
 use tally::Checked;
 
@@ -56,17 +57,21 @@ fn donors_from(count: u8, t1: u64, t2: u64) -> Donors
     Donors::Two(t1, t2)
 }
 
-// The held lifts, from their count and their places.
+// The held lifts, from their count and their places: one alone stands for donor 1's, with which the choice is the same.
 fn held_from(count: u8, i: usize, j: usize) -> Held
     ensures { λ r. ⌜ r ≡ heldFrom count i j ⌝ }
 {
+    let mut first = Seat::Elsewhere;
+    let mut second = Seat::Elsewhere;
     if count == 0 {
-        return Held::Neither;
+        return Held { first, second };
     }
+    first = Seat::Here(i);
     if count == 1 {
-        return Held::Single(i);
+        return Held { first, second };
     }
-    Held::Both(i, j)
+    second = Seat::Here(j);
+    Held { first, second }
 }
 
 // `round::select`: true, the place, the outcome and the next position written; or false, nothing written, where the words end.
@@ -86,15 +91,15 @@ pub extern "C" fn jengpilo_round_select(
     next: &mut usize,
 ) -> bool
     requires { ⌜ Callable (donorsFrom donors t1 t2) (rowLifts (now rows)) (heldFrom held i j) ⌝ }
-    ensures { λ r. ⌜ RoundReply (selected (donorsFrom donors t1 t2) (rowLifts (now (rows .entry))) (heldFrom held i j) (now (words .entry)) at) r (now (place .entry)) (now (place .exit)) (now (outcome .entry)) (now (outcome .exit)) (now (next .entry)) (now (next .exit)) ⌝ }
+    ensures { λ r. ⌜ RoundReply (heldFrom held i j) (selected (donorsFrom donors t1 t2) (rowLifts (now (rows .entry))) (initials (heldFrom held i j)) (now (words .entry)) at) r (now (place .entry)) (now (place .exit)) (now (outcome .entry)) (now (outcome .exit)) (now (next .entry)) (now (next .exit)) ⌝ }
 {
     let from = donors_from(donors, t1, t2);
     let here = held_from(held, i, j);
     let sums = round::sums_of(rows, from);
     match round::select(rows, from, here, sums, words, at) {
-        Selected::At(p, o, n) => {
+        Selected::At(p, dropped, n) => {
             *place = p;
-            *outcome = o;
+            *outcome = round::outcome(round::is_held(here, p), dropped);
             *next = n;
             true
         }
@@ -140,8 +145,8 @@ pub extern "C" fn jengpilo_panel_choose(
     second: &mut usize,
     third: &mut usize,
 ) -> u32
-    ensures replied { λ r. ⌜ numbers r (now (second .exit)) (now (third .exit)) ≡ reply (now (sheet .entry)) (now (words .entry)) start (length (now (out .entry))) ⌝ }
-    ensures written { λ _. ⌜ now (out .exit) ≡ output (now (sheet .entry)) (now (words .entry)) start (now (out .entry)) ⌝ }
+    ensures replied { λ r. ⌜ numbers r (now (second .exit)) (now (third .exit)) ≡ reply fourth (now (sheet .entry)) (now (words .entry)) start (length (now (out .entry))) ⌝ }
+    ensures written { λ _. ⌜ now (out .exit) ≡ output fourth (now (sheet .entry)) (now (words .entry)) start (now (out .entry)) ⌝ }
 {
     let answer = panel::choose(sheet, words, start, out);
     write_reply(answer, second, third)

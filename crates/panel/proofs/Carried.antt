@@ -16,10 +16,10 @@ use Rattle.tally.specs.Rounds.{liftCount, inUse}
 use Rattle.tally.specs.Law.{Fit}
 use Rattle.sheet.specs.Lift.{New}
 use Rattle.tally.proofs.Ranges.{filter-has}
-use Rattle.selection.specs.Choice.{liftInRound, Choice, byRound}
+use Rattle.selection.specs.Choice.{liftInRound, fourth, Choice, choiceOf, byRound}
 use Rattle.selection.proofs.Held.{proper}
 use Rattle.selection.proofs.Naming.{same}
-use Rattle.selection.proofs.Steps.{made, Steps, none, some}
+use Rattle.selection.proofs.Steps.{Steps, none, some}
 use Rattle.selection.proofs.Chosen.{Measured, run-measured}
 use Rattle.carry.specs.Next.{carriedOn, isChosen, nextLifts, inTable}
 use Rattle.carry.proofs.Rounds.{carriedOn-ext}
@@ -39,7 +39,7 @@ module _ {ls : List Lift} (f : Fit ls) {l : Lift} (i : List·Memᴰ l ls) where
   other {r} {a} m d = ne-eqb (a .number) (l .number) (λ e. d (sym (m .round) ∙ ap (λ x. x .new .round) (same (m .inside) 0 (f .wellFormed .listed) l i e)))
 
   -- no later round chooses it
-  unchosen : {ws : List ℕ} {from next : ℕ} {rs : List ℕ} {cs : List Choice} → Steps ls ws from rs cs next → All (Used ls) rs → (k : ℕ) → Rises k cs
+  unchosen : {ws : List ℕ} {from next : ℕ} {rs : List ℕ} {cs : List Choice} → Steps fourth ls ws from rs cs next → All (Used ls) rs → (k : ℕ) → Rises k cs
       → l .new .round < k → isChosen cs l ≡ false
   unfolding among
   unchosen none u k d h = refl
@@ -49,7 +49,7 @@ module _ {ls : List Lift} (f : Fit ls) {l : Lift} (i : List·Memᴰ l ls) where
       (unchosen rest (λ t m. u t (List·Memᴰ·tail m)) (suc r) (d .2) (omega (arith, d .0)))
 
   -- the table has its round's choice
-  table-has : {ws : List ℕ} {from next : ℕ} {rs : List ℕ} {cs : List Choice} → Steps ls ws from rs cs next → All (Used ls) rs → (k : ℕ) → Rises k cs
+  table-has : {ws : List ℕ} {from next : ℕ} {rs : List ℕ} {cs : List Choice} → Steps fourth ls ws from rs cs next → All (Used ls) rs → (k : ℕ) → Rises k cs
       → List·Memᴰ (l .new .round) rs → (xs : List ℕ) → length xs ≡ mostRounds + 1 → inTable (byRound (λ c. c .number) cs xs) l ≡ isChosen cs l
   unfolding among byRound
   table-has none u k d m xs e = absurd (List·Memᴰ·not-nil m)
@@ -57,7 +57,7 @@ module _ {ls : List Lift} (f : Fit ls) {l : Lift} (i : List·Memᴰ l ls) where
       go (eqb r (l .new .round)) refl (List·Memᴰ·cases-cons m) (λ n. table-has rest v (suc r) (d .2) n (set xs r (c .number)) (length-set xs r (c .number) ∙ e))
     where
       c : Choice
-      c = made r ls vs s
+      c = choiceOf r ls vs s
 
       v : All (Used ls) rs
       v t n = u t (List·Memᴰ·tail n)
@@ -77,7 +77,7 @@ module _ {ls : List Lift} (f : Fit ls) {l : Lift} (i : List·Memᴰ l ls) where
       go false h (inr n) ih = rw (other mine (eqb-false r (l .new .round) h)) (ih n)
 
 -- so what is written from the table is next quarter's lifts
-pub table-next : {ls : List Lift} → Fit ls → {ws : List ℕ} {start next : ℕ} {cs : List Choice} → Steps ls ws start (inUse New ls) cs next → Rises 1 cs
+pub table-next : {ls : List Lift} → Fit ls → {ws : List ℕ} {start next : ℕ} {cs : List Choice} → Steps fourth ls ws start (inUse New ls) cs next → Rises 1 cs
     → carriedOn (inTable (byRound (λ c. c .number) cs (replicate (mostRounds + 1) 0))) ls ≡ nextLifts cs ls
 table-next {ls} f k d =
     carriedOn-ext ls

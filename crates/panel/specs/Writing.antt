@@ -10,9 +10,9 @@ use Rattle.reply.specs.Reply.{onto}
 use Rattle.tally.specs.Rounds.{inUse}
 use Rattle.reply.specs.Refusal.{replyOf}
 use Rattle.reply.specs.declared.Answer.{Answer}
-use Rattle.tally.specs.Law.{Fit}
+use Rattle.tally.specs.Law.{FitBy, Fit}
 use Rattle.sheet.specs.Lift.{New}
-use Rattle.selection.specs.Choice.{panel, ofPanel, pair, writtenPanel}
+use Rattle.selection.specs.Choice.{Way, fourth, panel, ofPanel, pair, writtenPanel}
 use Rattle.carry.specs.Next.{carriedOn, inTable}
 use Rattle.carry.specs.Reply.{carriedTo}
 use Rattle.picks.specs.declared.Picks.{Picks}
@@ -42,10 +42,10 @@ pub record PairsFit (ns os : List ℕ) (room : ℕ) : Type 0 where
 -- ---- the answer
 
 -- an answer, and the output before and after it: they are the reply and the output of every panel of lifts that fit with `rounds`
--- new rounds and these choices
+-- new rounds and these choices, by any way
 pub record Answers (p : Picks) (rounds start : ℕ) (r : Answer) (before after : List ℕ) : Type 0 where
-  pub replies : (ls : List Lift) (ws : List ℕ) → Picked (panel ls ws start) p → rounds ≡ length (inUse New ls) → replyOf r ≡ ofPanel start (panel ls ws start)
-  pub writes : (ls : List Lift) (ws : List ℕ) → Picked (panel ls ws start) p → Fit ls → after ≡ writtenPanel (panel ls ws start) before
+  pub replies : (way : Way) (ls : List Lift) (ws : List ℕ) → Picked (panel way ls ws start) p → rounds ≡ length (inUse New ls) → replyOf r ≡ ofPanel start (panel way ls ws start)
+  pub writes : (way : Way) (ls : List Lift) (ws : List ℕ) → Picked (panel way ls ws start) p → FitBy (way .refuses) ls → after ≡ writtenPanel (panel way ls ws start) before
 
 -- ---- next quarter's sheet
 
@@ -56,4 +56,4 @@ sheetBy p ls = sheetOf (carriedOn (inTable (p .numbers)) ls)
 -- a lent sheet before and after the next sheet is written: it is that of every panel of these lifts, if they fit, that has these choices
 abbrev pub CarriesOn : Picks → List Lift → (before after : List ℕ) → Type 0
 CarriesOn p ls before after =
-    (ws : List ℕ) (start : ℕ) → Picked (panel ls ws start) p → Fit ls → after ≡ carriedTo (panel ls ws start) ls before
+    (ws : List ℕ) (start : ℕ) → Picked (panel fourth ls ws start) p → Fit ls → after ≡ carriedTo (panel fourth ls ws start) ls before

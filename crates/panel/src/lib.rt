@@ -1,6 +1,6 @@
 // The whole choice: one lift for each new round of a sheet ("The reply" and "Refused because of what was lent" of document 01).
 ghost use mathlib.Core.Path.{_≡_};
-ghost use Prim.Native.Nat.{_≤_};
+ghost use Prim.Native.Nat.{ℕ, _≤_};
 ghost use lib.ListN.{length};
 ghost use Rattle.reply.specs.Reply.{replied, unlessRefused};
 ghost use Rattle.reply.specs.Refusal.{replyOf};
@@ -9,8 +9,11 @@ ghost use Rattle.sheet.specs.Reading.{Legible};
 ghost use Rattle.sheet.specs.Lift.{New};
 ghost use Rattle.tally.specs.Rounds.{inUse};
 ghost use Rattle.tally.specs.Tables.{Tabled};
-ghost use Rattle.tally.specs.Law.{Fitting};
-ghost use Rattle.selection.specs.Choice.{panel as panelOf, unlessLacking, ofLent, writtenPanel, reply, output};
+ghost use mathlib.Core.List.{List};
+ghost use Rattle.tally.specs.Verdict.{verdictBy, verdictOf};
+ghost use Rattle.tally.specs.Law.{Fitting, VerdictAndTables};
+ghost use Rattle.picks.specs.Choosing.{wayOf};
+ghost use Rattle.selection.specs.Choice.{fourth, panel as panelOf, unlessLacking, ofLent, writtenPanel, reply, output};
 ghost use Rattle.selection.specs.Fair.{Fair};
 ghost use Rattle.carry.specs.Next.{remaining};
 ghost use Rattle.carry.specs.Reply.{ofLentNext, replyNext, outputNext, carriedTo, lentSheet};
@@ -18,11 +21,13 @@ ghost use Rattle.carry.specs.Law.{CarriesAll};
 ghost use Rattle.panel.specs.Writing.{sheetBy, CarriesOn};
 use output::write_choices;
 use picks::Picks;
+use picks::Way;
 use picks::select_all;
 use reply::Answer;
 use reply::Refusal;
 use sheet::Sheet;
 use tally::Checked;
+use tally::Examined;
 use tally::Tallies;
 
 mod output;
@@ -42,34 +47,58 @@ fn lacking(rounds: usize, words: usize, start: usize, room: usize) -> Answer
     Answer::Done(0, 0)
 }
 
-// The answer to a fitting sheet, from its tables.
-fn choose_fitting(sheet: &[u32], t: Tallies, words: &[u64], start: usize, out: &mut [u32]) -> Answer
+// The answer with what a way refuses behind 9, from the answer up to 9 and its tables.
+fn judge(way: Way, e: Examined) -> Checked
+    ensures { λ r. ⌜ ((ws : List ℕ) → VerdictAndTables ws e → verdictOf r ≡ verdictBy (wayOf way .refuses) ws) ⌝ }
+{
+    match way {
+        Way::Fourth => tally::with_donors(e),
+    }
+}
+
+// The answer to a fitting sheet by a way, from its tables.
+fn choose_fitting(
+    way: Way,
+    sheet: &[u32],
+    t: Tallies,
+    words: &[u64],
+    start: usize,
+    out: &mut [u32],
+) -> Answer
     requires { ⌜ Fitting (now sheet) ⌝ }
     requires { ⌜ Tabled (liftsOfSheet (now sheet)) t ⌝ }
-    ensures { λ r. ⌜ replyOf r ≡ ofLent (liftsOfSheet (now (sheet .entry))) (length (inUse New (liftsOfSheet (now (sheet .entry))))) (now (words .entry)) start (length (now (out .entry))) ⌝ }
-    ensures { λ _. ⌜ now (out .exit) ≡ unlessRefused (ofLent (liftsOfSheet (now (sheet .entry))) (length (inUse New (liftsOfSheet (now (sheet .entry))))) (now (words .entry)) start (length (now (out .entry)))) (now (out .entry)) (writtenPanel (panelOf (liftsOfSheet (now (sheet .entry))) (now (words .entry)) start) (now (out .entry))) ⌝ }
+    ensures { λ r. ⌜ replyOf r ≡ ofLent (wayOf way) (liftsOfSheet (now (sheet .entry))) (length (inUse New (liftsOfSheet (now (sheet .entry))))) (now (words .entry)) start (length (now (out .entry))) ⌝ }
+    ensures { λ _. ⌜ now (out .exit) ≡ unlessRefused (ofLent (wayOf way) (liftsOfSheet (now (sheet .entry))) (length (inUse New (liftsOfSheet (now (sheet .entry))))) (now (words .entry)) start (length (now (out .entry)))) (now (out .entry)) (writtenPanel (panelOf (wayOf way) (liftsOfSheet (now (sheet .entry))) (now (words .entry)) start) (now (out .entry))) ⌝ }
 {
     let rounds = tally::in_use(&t.new_lifts);
     let lack = lacking(rounds, words.len(), start, out.len());
     if lack.number() != 0 {
         return lack;
     }
-    let picks = select_all(sheet, t, words, start);
+    let picks = select_all(way, sheet, t, words, start);
     write_choices(picks, rounds, start, out)
 }
 
-// The whole choice: refused, with nothing written and no word used up, or one lift for each new round, written as pairs.
-pub fn choose(sheet: &[u32], words: &[u64], start: usize, out: &mut [u32]) -> Answer
-    ensures replied { λ r. ⌜ replyOf r ≡ reply (now (sheet .entry)) (now (words .entry)) start (length (now (out .entry))) ⌝ }
-    ensures written { λ _. ⌜ now (out .exit) ≡ output (now (sheet .entry)) (now (words .entry)) start (now (out .entry)) ⌝ }
-    ensures fair { λ _. ⌜ (Fitting (now (sheet .entry)) → Fair (liftsOfSheet (now (sheet .entry)))) ⌝ }
+// The whole choice by a way.
+fn choose_by(way: Way, sheet: &[u32], words: &[u64], start: usize, out: &mut [u32]) -> Answer
+    ensures replied { λ r. ⌜ replyOf r ≡ reply (wayOf way) (now (sheet .entry)) (now (words .entry)) start (length (now (out .entry))) ⌝ }
+    ensures written { λ _. ⌜ now (out .exit) ≡ output (wayOf way) (now (sheet .entry)) (now (words .entry)) start (now (out .entry)) ⌝ }
 {
     let e = tally::examine(sheet);
-    let checked = e.checked;
-    match checked {
+    match judge(way, e) {
         Checked::Refused(x) => Answer::Refused(x),
-        Checked::Fits(_) => choose_fitting(sheet, e.tallies, words, start, out),
+        Checked::Fits(_) => choose_fitting(way, sheet, e.tallies, words, start, out),
     }
+}
+
+// The whole choice by the fourth procedure: refused, with nothing written and no word used up, or one lift for each new round, written
+// as pairs.
+pub fn choose(sheet: &[u32], words: &[u64], start: usize, out: &mut [u32]) -> Answer
+    ensures replied { λ r. ⌜ replyOf r ≡ reply fourth (now (sheet .entry)) (now (words .entry)) start (length (now (out .entry))) ⌝ }
+    ensures written { λ _. ⌜ now (out .exit) ≡ output fourth (now (sheet .entry)) (now (words .entry)) start (now (out .entry)) ⌝ }
+    ensures fair { λ _. ⌜ (Fitting (now (sheet .entry)) → Fair fourth (liftsOfSheet (now (sheet .entry)))) ⌝ }
+{
+    choose_by(Way::Fourth, sheet, words, start, out)
 }
 
 // ---- with next quarter's sheet
@@ -99,8 +128,8 @@ fn choose_next_fitting(
     requires { ⌜ Fitting (now sheet) ⌝ }
     requires { ⌜ Tabled (liftsOfSheet (now sheet)) t ⌝ }
     ensures { λ r. ⌜ replyOf r ≡ ofLentNext (liftsOfSheet (now (sheet .entry))) (length (inUse New (liftsOfSheet (now (sheet .entry))))) (now (words .entry)) start (length (now (out .entry))) (length (now (next .entry))) ⌝ }
-    ensures { λ _. ⌜ now (out .exit) ≡ unlessRefused (ofLentNext (liftsOfSheet (now (sheet .entry))) (length (inUse New (liftsOfSheet (now (sheet .entry))))) (now (words .entry)) start (length (now (out .entry))) (length (now (next .entry)))) (now (out .entry)) (writtenPanel (panelOf (liftsOfSheet (now (sheet .entry))) (now (words .entry)) start) (now (out .entry))) ⌝ }
-    ensures { λ _. ⌜ now (next .exit) ≡ unlessRefused (ofLentNext (liftsOfSheet (now (sheet .entry))) (length (inUse New (liftsOfSheet (now (sheet .entry))))) (now (words .entry)) start (length (now (out .entry))) (length (now (next .entry)))) (now (next .entry)) (carriedTo (panelOf (liftsOfSheet (now (sheet .entry))) (now (words .entry)) start) (liftsOfSheet (now (sheet .entry))) (now (next .entry))) ⌝ }
+    ensures { λ _. ⌜ now (out .exit) ≡ unlessRefused (ofLentNext (liftsOfSheet (now (sheet .entry))) (length (inUse New (liftsOfSheet (now (sheet .entry))))) (now (words .entry)) start (length (now (out .entry))) (length (now (next .entry)))) (now (out .entry)) (writtenPanel (panelOf fourth (liftsOfSheet (now (sheet .entry))) (now (words .entry)) start) (now (out .entry))) ⌝ }
+    ensures { λ _. ⌜ now (next .exit) ≡ unlessRefused (ofLentNext (liftsOfSheet (now (sheet .entry))) (length (inUse New (liftsOfSheet (now (sheet .entry))))) (now (words .entry)) start (length (now (out .entry))) (length (now (next .entry)))) (now (next .entry)) (carriedTo (panelOf fourth (liftsOfSheet (now (sheet .entry))) (now (words .entry)) start) (liftsOfSheet (now (sheet .entry))) (now (next .entry))) ⌝ }
 {
     let rounds = tally::in_use(&t.new_lifts);
     let lack = lacking(rounds, words.len(), start, out.len());
@@ -112,7 +141,7 @@ fn choose_next_fitting(
     if next.len() < space {
         return Answer::Refused(Refusal::Next(space));
     }
-    let picks = select_all(sheet, t, words, start);
+    let picks = select_all(Way::Fourth, sheet, t, words, start);
     write_next(sheet, picks, lifts, next);
     write_choices(picks, rounds, start, out)
 }
@@ -130,11 +159,10 @@ pub fn choose_next(
     ensures written { λ _. ⌜ now (out .exit) ≡ outputNext (now (sheet .entry)) (now (words .entry)) start (now (out .entry)) (length (now (next .entry))) ⌝ }
     ensures carried { λ _. ⌜ now (next .exit) ≡ lentSheet (now (sheet .entry)) (now (words .entry)) start (length (now (out .entry))) (now (next .entry)) ⌝ }
     ensures carries { λ _. ⌜ (Fitting (now (sheet .entry)) → CarriesAll (liftsOfSheet (now (sheet .entry)))) ⌝ }
-    ensures fair { λ _. ⌜ (Fitting (now (sheet .entry)) → Fair (liftsOfSheet (now (sheet .entry)))) ⌝ }
+    ensures fair { λ _. ⌜ (Fitting (now (sheet .entry)) → Fair fourth (liftsOfSheet (now (sheet .entry)))) ⌝ }
 {
     let e = tally::examine(sheet);
-    let checked = e.checked;
-    match checked {
+    match judge(Way::Fourth, e) {
         Checked::Refused(x) => Answer::Refused(x),
         Checked::Fits(_) => choose_next_fitting(sheet, e.tallies, words, start, out, next),
     }

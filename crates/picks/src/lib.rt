@@ -1,26 +1,31 @@
 // The choices of all new rounds of a fitting sheet, round by round ("One round" of document 01, for each of them).
 ghost use mathlib.Core.Path.{_≡_};
-ghost use mathlib.Core.List.{[]};
+ghost use mathlib.Core.List.{[], map};
 ghost use Prim.Native.Nat.{_+_, _*_, _≤_, _<_};
 ghost use lib.ListN.{length, getD};
 ghost use Rattle.probability.specs.Pieces.{pieces};
-ghost use Rattle.round.specs.Choice.{selected};
-ghost use Rattle.round.specs.Share.{heldOf};
-ghost use Rattle.round.specs.Rows.{rowLength, rowLifts as liftsOfRows, Callable, HasSums};
+ghost use Rattle.round.specs.Choice.{selectedBy};
+ghost use Rattle.round.specs.Rows.{rowLength, rowLifts as liftsOfRows, initialOf, initials, Callable, HasSums};
 ghost use Rattle.sheet.specs.Sheet.{mostRounds, lifts as liftsOfSheet};
 ghost use Rattle.tally.specs.Tables.{Tabled};
 ghost use Rattle.tally.specs.Law.{Fitting};
 ghost use Rattle.rows.specs.Rows.{placeIn};
-ghost use Rattle.selection.specs.Choice.{withSums, heldAmong, panel as panelOf};
-ghost use Rattle.picks.specs.Choosing.{donorsBy, initialOf, stepOf, Picked};
+ghost use Rattle.selection.specs.Choice.{withSums, panel as panelOf};
+ghost use Rattle.picks.specs.Choosing.{updateOf, wayOf, donorsAt, initialBy, initialsAt, stepOf, Picked};
 use round::Donors;
 use round::Held;
 use round::Lift;
+use round::Seat;
 use round::Selected;
 use round::Sums;
 use sheet::Sheet;
-use tally::Found;
 use tally::Tallies;
+
+// The ways of choosing.
+pub enum Way {
+    // The fourth procedure of document 002.
+    Fourth,
+}
 
 // The choices by round: the lift's number and the outcome, both 0 where there is none; and the next position; or the round in which the
 // words ended, 0 if they did not.
@@ -39,12 +44,22 @@ enum Step {
     Short,
 }
 
+// What the choice of a round goes by, besides its rows: its donors, where their held lifts are, and its sums.
+struct Given {
+    donors: Donors,
+    held: Held,
+    sums: Sums,
+}
+
 // ---- one round
 
-// The donors with their old sums, from the first and the second of them.
-fn with_sums(first: u64, second: u64, sums: &[u64; Sheet::TABLE]) -> Donors
-    ensures { λ r. ⌜ r ≡ withSums (λ t. getD (now (sums .entry)) t 0) (donorsBy first second) ⌝ }
+// The donors of a round with their old sums, from the pairs of donors.
+fn donors_in(round: usize, pairs: &[u64; 2 * Sheet::TABLE], sums: &[u64; Sheet::TABLE]) -> Donors
+    requires { ⌜ round ≤ mostRounds ⌝ }
+    ensures { λ r. ⌜ r ≡ withSums (map (λ t. getD (now (sums .entry)) t 0) (donorsAt (now (pairs .entry)) round)) ⌝ }
 {
+    let first = pairs[2 * round];
+    let second = pairs[2 * round + 1];
     if first > Sheet::MOST_ROUNDS as u64 {
         return Donors::None;
     }
@@ -55,46 +70,42 @@ fn with_sums(first: u64, second: u64, sums: &[u64; Sheet::TABLE]) -> Donors
 }
 
 // The row at which a held lift stands, as a place of the round whose rows begin at row a and end before row e.
-fn held_place(seat: u64, a: u64, e: u64) -> Found
+fn held_place(seat: u64, a: u64, e: u64) -> Seat
     ensures { λ r. ⌜ initialOf r ≡ placeIn a e seat ⌝ }
 {
     if seat < a {
-        return Found::Nothing;
+        return Seat::Elsewhere;
     }
     if e <= seat {
-        return Found::Nothing;
+        return Seat::Elsewhere;
     }
-    Found::At((seat - a) as usize)
+    Seat::Here((seat - a) as usize)
 }
 
-// The held lifts of donor 1 and donor 2.
-fn held_of(a: Found, b: Found) -> Held
-    ensures { λ r. ⌜ r ≡ heldOf (initialOf a) (initialOf b) ⌝ }
+// Where the held lift of a donor of that round is; elsewhere without a donor.
+fn held_of(donor: u64, seats: &[u64; Sheet::TABLE], a: u64, e: u64) -> Seat
+    ensures { λ r. ⌜ initialOf r ≡ initialBy (λ t. placeIn a e (getD (now (seats .entry)) t 0)) donor ⌝ }
 {
-    match a {
-        Found::Nothing => match b {
-            Found::Nothing => Held::Neither,
-            Found::At(j) => Held::Single(j),
-        },
-        Found::At(i) => match b {
-            Found::Nothing => Held::Single(i),
-            Found::At(j) => Held::Both(i, j),
-        },
+    if donor > Sheet::MOST_ROUNDS as u64 {
+        return Seat::Elsewhere;
     }
+    held_place(seats[donor as usize], a, e)
 }
 
-// The held lifts in that round, from the first and the second of its donors.
-fn held_in(first: u64, second: u64, seats: &[u64; Sheet::TABLE], a: u64, e: u64) -> Held
-    ensures { λ r. ⌜ r ≡ heldAmong (λ t. placeIn a e (getD (now (seats .entry)) t 0)) (donorsBy first second) ⌝ }
+// Where the held lifts of the two donors of a round are; the round's rows begin at row a and end before row e.
+fn held_in<'a>(
+    round: usize,
+    pairs: &'a [u64; 2 * Sheet::TABLE],
+    seats: &'a [u64; Sheet::TABLE],
+    a: u64,
+    e: u64,
+) -> Held
+    requires { ⌜ round ≤ mostRounds ⌝ }
+    ensures { λ r. ⌜ initials r ≡ initialsAt (λ t. placeIn a e (getD (now (seats .entry)) t 0)) (now (pairs .entry)) round ⌝ }
 {
-    if first > Sheet::MOST_ROUNDS as u64 {
-        return Held::Neither;
-    }
-    let one = held_place(seats[first as usize], a, e);
-    if second > Sheet::MOST_ROUNDS as u64 {
-        return held_of(one, Found::Nothing);
-    }
-    held_of(one, held_place(seats[second as usize], a, e))
+    let first = held_of(pairs[2 * round], seats, a, e);
+    let second = held_of(pairs[2 * round + 1], seats, a, e);
+    Held { first, second }
 }
 
 // The sums of a round: that of its new measures, and what each of its donors sent it.
@@ -107,8 +118,8 @@ fn sums_in(new: u64, sent: &[u64; 3 * Sheet::TABLE], round: usize) -> Sums
     Sums { new, first, second }
 }
 
-// The number of the lift at a place of a round, 0 beyond the last.
-fn number_at(rows: &[u32], place: usize) -> u32
+// The first number of the row at a place of a round, 0 beyond the last: the lift's number with its mark.
+fn mark_at(rows: &[u32], place: usize) -> u32
     ensures { λ r. ⌜ r ≡ getD (getD (pieces rowLength (now (rows .entry))) place []) 0 0 ⌝ }
 {
     if place < rows.len() / Lift::ROW {
@@ -117,36 +128,71 @@ fn number_at(rows: &[u32], place: usize) -> u32
     0
 }
 
-// The choice of a round lent as rows, with its sums.
-fn choose_lift(
-    rows: &[u32],
-    donors: Donors,
-    held: Held,
-    sums: Sums,
-    words: &[u64],
-    at: usize,
-) -> Step
-    requires { ⌜ (0 < length (now rows) → Callable donors (liftsOfRows (now rows)) held) ⌝ }
-    requires { ⌜ HasSums donors (liftsOfRows (now rows)) sums ⌝ }
-    ensures { λ r. ⌜ r ≡ stepOf (now (rows .entry)) (selected donors (liftsOfRows (now (rows .entry))) held (now (words .entry)) at) ⌝ }
+// The choice of a round by a way.
+fn select_by(way: Way, rows: &[u32], g: Given, words: &[u64], at: usize) -> Selected
+    requires { ⌜ Callable (g .donors) (liftsOfRows (now rows)) (g .held) ⌝ }
+    requires { ⌜ HasSums (g .donors) (liftsOfRows (now rows)) (g .sums) ⌝ }
+    ensures { λ r. ⌜ r ≡ selectedBy (updateOf way) (g .donors) (liftsOfRows (now (rows .entry))) (initials (g .held)) (now (words .entry)) at ⌝ }
+{
+    let donors = g.donors;
+    let held = g.held;
+    let sums = g.sums;
+    match way {
+        Way::Fourth => round::select(rows, donors, held, sums, words, at),
+    }
+}
+
+// The choice of a round lent as rows: the outcome goes by the chosen lift's own mark.
+fn choose_lift(way: Way, rows: &[u32], g: Given, words: &[u64], at: usize) -> Step
+    requires { ⌜ (0 < length (now rows) → Callable (g .donors) (liftsOfRows (now rows)) (g .held)) ⌝ }
+    requires { ⌜ HasSums (g .donors) (liftsOfRows (now rows)) (g .sums) ⌝ }
+    ensures { λ r. ⌜ r ≡ stepOf (now (rows .entry)) (selectedBy (updateOf way) (g .donors) (liftsOfRows (now (rows .entry))) (initials (g .held)) (now (words .entry)) at) ⌝ }
 {
     if rows.len() == 0 {
         return Step::Passed;
     }
-    match round::select(rows, donors, held, sums, words, at) {
-        Selected::At(i, outcome, next) => Step::Chosen(number_at(rows, i), outcome, next),
+    match select_by(way, rows, g, words, at) {
+        Selected::At(i, dropped, next) => {
+            let mark = mark_at(rows, i);
+            let held = Sheet::kind(mark) == Sheet::HELD;
+            let outcome = round::outcome(held, dropped);
+            Step::Chosen(Sheet::payload(mark), outcome, next)
+        }
         Selected::Short => Step::Short,
     }
 }
 
 // ---- all rounds
 
-// The choices for a fitting sheet, from its tables; its lifts are laid out in the rows lent.
-fn select_rounds(sheet: &[u32], t: Tallies, words: &[u64], start: usize, rows: &mut [u32]) -> Picks
-    requires { ⌜ Fitting (now sheet) ⌝ }
-    requires { ⌜ Tabled (liftsOfSheet (now sheet)) t ⌝ }
+// The choices as they were gathered.
+fn picked(
+    numbers: [u32; Sheet::TABLE],
+    outcomes: [u32; Sheet::TABLE],
+    next: usize,
+    short: usize,
+) -> Picks
+    ensures { λ r. ⌜ r ≡ record { numbers = numbers; outcomes = outcomes; next = next; short = short } ⌝ }
+{
+    Picks {
+        numbers,
+        outcomes,
+        next,
+        short,
+    }
+}
+
+// The choices for a fitting sheet by a way, from its tables; its lifts are laid out in the rows lent.
+fn select_rounds(
+    way: Way,
+    sheet: &[u32],
+    t: Tallies,
+    words: &[u64],
+    start: usize,
+    rows: &mut [u32],
+) -> Picks
+    requires { ⌜ Fitting (now sheet) × Tabled (liftsOfSheet (now sheet)) t ⌝ }
     requires { ⌜ length (now rows) ≡ rowLength * length (liftsOfSheet (now sheet)) ⌝ }
-    ensures { λ r. ⌜ Picked (panelOf (liftsOfSheet (now (sheet .entry))) (now (words .entry)) start) r ⌝ }
+    ensures { λ r. ⌜ Picked (panelOf (wayOf way) (liftsOfSheet (now (sheet .entry))) (now (words .entry)) start) r ⌝ }
 {
     let x = rows::lay_out(sheet, t, rows);
     let mut numbers = [0u32; Sheet::TABLE];
@@ -156,14 +202,13 @@ fn select_rounds(sheet: &[u32], t: Tallies, words: &[u64], start: usize, rows: &
     while r <= Sheet::MOST_ROUNDS {
         let a = x.starts[r];
         let e = x.starts[r + 1];
-        let first = x.donors[2 * r];
-        let second = x.donors[2 * r + 1];
-        let donors = with_sums(first, second, &t.old_sums);
-        let held = held_in(first, second, &x.seats, a, e);
+        let donors = donors_in(r, &x.donors, &t.old_sums);
+        let held = held_in(r, &x.donors, &x.seats, a, e);
+        let sums = sums_in(t.new_sums[r], &x.sent, r);
         let begin = Lift::ROW * a as usize;
         let end = Lift::ROW * e as usize;
-        let sums = sums_in(t.new_sums[r], &x.sent, r);
-        match choose_lift(&rows[begin..end], donors, held, sums, words, next) {
+        let g = Given { donors, held, sums };
+        match choose_lift(way, &rows[begin..end], g, words, next) {
             Step::Passed => r += 1,
             Step::Chosen(number, outcome, behind) => {
                 numbers[r] = number;
@@ -171,31 +216,19 @@ fn select_rounds(sheet: &[u32], t: Tallies, words: &[u64], start: usize, rows: &
                 next = behind;
                 r += 1;
             }
-            Step::Short => {
-                return Picks {
-                    numbers,
-                    outcomes,
-                    next,
-                    short: r,
-                };
-            }
+            Step::Short => return picked(numbers, outcomes, next, r),
         }
     }
-    Picks {
-        numbers,
-        outcomes,
-        next,
-        short: 0,
-    }
+    picked(numbers, outcomes, next, 0)
 }
 
 // The same, with rows of its own.
-pub fn select_all(sheet: &[u32], t: Tallies, words: &[u64], start: usize) -> Picks
+pub fn select_all(way: Way, sheet: &[u32], t: Tallies, words: &[u64], start: usize) -> Picks
     requires { ⌜ Fitting (now sheet) ⌝ }
     requires { ⌜ Tabled (liftsOfSheet (now sheet)) t ⌝ }
-    ensures { λ r. ⌜ Picked (panelOf (liftsOfSheet (now (sheet .entry))) (now (words .entry)) start) r ⌝ }
+    ensures { λ r. ⌜ Picked (panelOf (wayOf way) (liftsOfSheet (now (sheet .entry))) (now (words .entry)) start) r ⌝ }
 {
     let mut rows = [0u32; Lift::ROW * Sheet::MOST_LIFTS];
     let end = Lift::ROW * sheet::size(sheet);
-    select_rounds(sheet, t, words, start, &mut rows[..end])
+    select_rounds(way, sheet, t, words, start, &mut rows[..end])
 }

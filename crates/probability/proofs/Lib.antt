@@ -4,4 +4,7 @@ pub mod Tests
 pub mod Sums
 pub mod Intervals
 pub mod Fractions
+pub mod Averages
 pub mod Masses
+pub mod Dichotomy
+pub mod Plans

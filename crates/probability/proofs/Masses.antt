@@ -1,6 +1,6 @@
 -- Laws of the mass of a plan. Each goes by induction over the plan: a draw's subplans share its mass evenly.
 use Prim.Native.Nat.{ℕ, suc, _+_, _*_, _<_}
-use mathlib.Core.Path.{_≡_, refl, ap, ap₂, _∙_, fun-ext}
+use mathlib.Core.Path.{_≡_, refl, ap, ap₂, _∙_}
 use mathlib.Core.Bool.{Bool, true, false}
 use mathlib.Core.List.{List, [], _∷_, _++_, map}
 use native.Mathlib.Nat.{mul-pos, mul-one, add-sub-cancel-left}
@@ -13,7 +13,8 @@ use Rattle.probability.specs.Fraction.{Fraction, _//_, _⊕_, _⊗_, _�
 use Rattle.probability.specs.Plan.{Plan, done, draw, bind, Every, Drawable, Path, extendPath, paths, weight, mass, mean, Weighed}
 use Rattle.probability.proofs.Sums.{over-related, over-ext, Σ-const}
 use Rattle.probability.proofs.Intervals.{pick-here, pick-beyond, intervals}
-use Rattle.probability.proofs.Fractions.{≈-refl, ≈-sym, ≈-trans, ≈-≲, ⊕-≈, ⊗-≈, sumOver-++, sumOver-map, sumOver-part, sum-≈, sum-cut, sum-const, sum-part, sum-same, sum-≲, sum-mix, sum-one}
+use Rattle.probability.proofs.Fractions.{≈-refl, ≈-sym, ≈-trans, ≈-≲, ⊕-≈, ⊗-≈, sumOver-++, sumOver-map, sumOver-part, sum-≈, sum-cut, sum-const, sum-part, sum-same, sum-≲, sum-one}
+use Rattle.probability.proofs.Averages.{av-den, av-mix, plan-averages, mean-bind}
 
 -- ---- the list of paths and the recursion
 
@@ -45,11 +46,8 @@ mass-even b p q h =
     record { cross = omega (arith, ap (λ t. t * b) (k .cross)); left = mul-pos p (k .left); right = mul-pos p q }
 
 pub mass-whole : {A : Type 0} (p : Plan A) → Drawable p → mass (λ _. true) p ≈ 1 // 1
-unfolding mass mean Every
-mass-whole (done a) d = ≈-refl (omega arith)
-mass-whole (draw b k) d =
-    ≈-trans (rw (Σ-const b 1) at (mass-even b {a = λ v. 1} {S = 1} (d .0) (omega arith) (λ v l. mass-whole (k v) (d .1 v l))))
-    (record { cross = omega arith; left = omega (arith, d .0); right = omega arith })
+unfolding mass
+mass-whole p d = plan-averages _ p d .whole
 
 indicator-le : {A : Type 0} (t : A → Bool) (a : A) → indicator (t a) // 1 ≲ 1 // 1
 indicator-le t a = go (t a)
@@ -75,9 +73,8 @@ weighed t p d = record {
 -- ---- one plan after another
 
 pub mass-after : {A B : Type 0} (t : B → Bool) (p : Plan A) (k : A → Plan B) → mass t (bind p k) ≡ mean (λ a. mass t (k a)) p
-unfolding bind mean mass
-mass-after t (done a) k = refl
-mass-after t (draw b f) k = ap (λ g. 1 // b ⊗ sum b g) (fun-ext (λ v. mass-after t (f v) k))
+unfolding mass
+mass-after t p k = mean-bind _ p k
 
 pub every-after : {A B : Type 0} (P : A → Type 0) (Q : B → Type 0) (p : Plan A) (k : A → Plan B) → Every P p → ((a : A) → P a → Every Q (k a)) → Every Q (bind p k)
 unfolding Every bind
@@ -92,21 +89,16 @@ every-map h (done a) d = h a d
 every-map h (draw b k) d = (d .0, λ v l. every-map h (k v) (d .1 v l))
 
 pub mass-den : {A : Type 0} (P : A → Type 0) (t : A → Bool) (p : Plan A) → Every P p → 0 < mass t p .den
-mass-den P t p d = mass-part t p (every-map {P = P} {Q = λ _. Unit {0}} (λ _ _. tt) p d) .left
+unfolding mass
+mass-den P t p d = av-den (plan-averages P p d) _ (λ _ _. omega arith)
 
 -- total probability: where f depends on the class of a result alone, its mean is the sum over the classes
 pub mean-classes : {A : Type 0} (class : A → ℕ) (f : A → Fraction) (g : ℕ → Fraction) (m : ℕ) (p : Plan A) → ((i : ℕ) → i < m → 0 < g i .den)
     → Every (λ a. (class a < m) × (f a ≈ g (class a))) p → mean f p ≈ sum m (λ i. mass (λ a. eqb (class a) i) p ⊗ g i)
-unfolding Every mean mass
-mean-classes class f g m (done a) x d = ≈-trans (d .1) (≈-sym (sum-one m (class a) g (d .0) x))
-mean-classes class f g m (draw b k) x d =
-    let M : ℕ → ℕ → Fraction = λ v i. mass (λ a. eqb (class a) i) (k v) in
-    let u : (v : ℕ) → v < b → (i : ℕ) → i < m → 0 < M v i .den = λ v l i _. mass-den _ (λ a. eqb (class a) i) (k v) (d .1 v l) in
-    let r : (v : ℕ) → v < b → mean f (k v) ≈ sum m (λ i. M v i ⊗ g i) = λ v l. mean-classes class f g m (k v) x (d .1 v l) in
-    ≈-trans (⊗-≈ (≈-refl {q = 1 // b} (d .0)) (sum-≈ b r))
-    (≈-trans (≈-sym (sum-part b (1 // b) (λ v. sum m (λ i. M v i ⊗ g i)) (d .0) (λ v l. r v l .right)))
-    (≈-trans (sum-mix b m (λ v. 1 // b) M g (λ v l. d .0) u x)
-    (sum-≈ m (λ i l. ⊗-≈ (sum-part b (1 // b) (λ v. M v i) (d .0) (λ v k. u v k i l)) (≈-refl (x i l))))))
+unfolding mass
+mean-classes class f g m p x d =
+    let av = plan-averages _ p d in
+    ≈-trans (av .same f _ (λ a h. ≈-trans (h .1) (≈-sym (sum-one m (class a) g (h .0) x)))) (av-mix av m (λ a i. indicator (eqb (class a) i) // 1) g (λ _ _ _ _. omega arith) x)
 
 -- ---- a draw whose value only picks an interval: each index has its weight's part
 

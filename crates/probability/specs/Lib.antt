@@ -6,3 +6,5 @@ pub mod Table
 pub mod Among
 pub mod Pieces
 pub mod Initial
+pub mod Average
+pub mod Side

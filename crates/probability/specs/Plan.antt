@@ -1,6 +1,7 @@
 -- Plans: trees of draws, their paths, and the mass of the paths whose result passes a test.
 use Prim.Native.Nat.{ℕ, zero, suc, _*_, _<_}
-use mathlib.Core.Bool.{Bool, true}
+use mathlib.Core.Path.{_≡_}
+use mathlib.Core.Bool.{Bool, true, _&&_}
 use mathlib.Core.List.{List, [], _∷_, _++_, map}
 use Rattle.probability.specs.Sum.{over, indicator}
 use Rattle.probability.specs.Fraction.{Fraction, _//_, _⊗_, _≈_, _≲_, sum, sumOver}
@@ -14,6 +15,17 @@ pub data Plan (A : Type 0) : Type 0 where
 unfoldable pub bind : {A B : Type 0} → Plan A → (A → Plan B) → Plan B
 bind (done a) k = k a
 bind (draw b f) k = draw b (λ v. bind (f v) k)
+
+-- two plans, neither looking at the other
+unfoldable pub both : {A B : Type 0} → Plan A → Plan B → Plan (A × B)
+both p q = bind p (λ a. bind q (λ b. done (a, b)))
+
+-- the same bounds, and the same for every value below them
+unfoldable pub SamePlan : {A : Type 0} → Plan A → Plan A → Type 0
+SamePlan (done a) (done b) = a ≡ b
+SamePlan (done a) (draw c g) = ⊥
+SamePlan (draw b f) (done a) = ⊥
+SamePlan (draw b f) (draw c g) = (b ≡ c) × ((v : ℕ) → v < b → SamePlan (f v) (g v))
 
 -- every draw has a value, and every result satisfies P
 unfoldable pub Every : {A : Type 0} → (A → Type 0) → Plan A → Type 0
@@ -66,3 +78,14 @@ pub record Weighed {A : Type 0} (t : A → Bool) (p : Plan A) : Type 0 where
   pub whole : weight (λ _. true) (paths p) ≈ 1 // 1
   -- and no part of them weighs more
   pub part : weight t (paths p) ≲ 1 // 1
+
+-- both results pass their tests
+abbrev pub passBoth : {A B : Type 0} → (A → Bool) → (B → Bool) → A × B → Bool
+passBoth t u c = t (c .0) && u (c .1)
+
+-- what is proved of two plans whose draws all have a value, and of a test for each: their results are independent (proofs/Plans.antt)
+pub record IndependentPlans {A B : Type 0} (t : A → Bool) (u : B → Bool) (p : Plan A) (q : Plan B) : Type 0 where
+  -- masses multiply
+  pub masses : mass (passBoth t u) (both p q) ≈ mass t p ⊗ mass u q
+  -- and so do the weights of the paths
+  pub weights : weight (passBoth t u) (paths (both p q)) ≈ weight t (paths p) ⊗ weight u (paths q)

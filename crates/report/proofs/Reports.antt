@@ -12,7 +12,7 @@ use Rattle.sheet.specs.Sheet.{mostRounds, longest, lifts}
 use Rattle.reply.specs.Reply.{numbered, Reply, numbers, replied}
 use Rattle.tally.specs.Rounds.{inUse}
 use Rattle.sheet.specs.Lift.{New}
-use Rattle.selection.specs.Choice.{writtenPairs, reply, output}
+use Rattle.selection.specs.Choice.{fourth, writtenPairs, reply, output}
 use Rattle.selection.proofs.Replies.{ran}
 use Rattle.selection.proofs.Steps.{steps, steps-count, steps-between}
 use Rattle.selection.proofs.Choices.{rises-sound, panel-rises, few-rounds}
@@ -54,7 +54,7 @@ module _ (sheet : List ℕ) (size : ℕ) (words : List ℕ) where
 
 -- ---- the reply
 
-pub text-refused : (sheet ws : List ℕ) {r : Reply} → r ≡ reply sheet ws 0 (2 * mostRounds) → (r .number ≡ 0 → ⊥)
+pub text-refused : (sheet ws : List ℕ) {r : Reply} → r ≡ reply fourth sheet ws 0 (2 * mostRounds) → (r .number ≡ 0 → ⊥)
     → textOf sheet ws ≡ refusedLine (numbered (r .number) (r .second))
 unfolding textOf
 text-refused sheet ws {r} e h = rw (← e, ne-eqb (r .number) 0 h)
@@ -65,13 +65,13 @@ pub record Text (sheet ws : List ℕ) (n k : ℕ) (out : List ℕ) : Type 0 wher
   pub is : pairLines (take (2 * n) out) ++ wordsLine k ≡ textOf sheet ws
   pub room : length (pairLines (take (2 * n) out) ++ wordsLine k) ≤ textRoom
 
-module _ (sheet ws : List ℕ) {n k : ℕ} (e : reply sheet ws 0 (2 * mostRounds) ≡ replied n k) where
+module _ (sheet ws : List ℕ) {n k : ℕ} (e : reply fourth sheet ws 0 (2 * mostRounds) ≡ replied n k) where
   pub text-chosen : (out : List ℕ) {out′ : List ℕ} → length ws ≤ mostWords → length out ≡ 2 * mostRounds → length out′ ≡ length out
-      → out′ ≡ output sheet ws 0 out → Text sheet ws n k out′
+      → out′ ≡ output fourth sheet ws 0 out → Text sheet ws n k out′
   unfolding textOf output
   text-chosen out {out′} h l l′ o =
-      let m = ran sheet ws 0 (2 * mostRounds) e in
-      let k = steps (lifts sheet) ws 0 (inUse New (lifts sheet)) (m .is) in
+      let m = ran fourth sheet ws 0 (2 * mostRounds) e in
+      let k = steps fourth (lifts sheet) ws 0 (inUse New (lifts sheet)) (m .is) in
       let s = rises-sound 1 (m .choices) (panel-rises (m .fit) k) in
       let few : length (m .choices) ≤ mostRounds = omega (arith, steps-count k, few-rounds (lifts sheet)) in
       let w : out′ ≡ writtenPairs (m .choices) out = o ∙ rw (l, e, m .is) in
@@ -88,8 +88,8 @@ pub record TextIs (sheet ws : List ℕ) (r : Reply) (out : List ℕ) : Type 0 wh
   pub ready : Printable r out
   pub is : textOf sheet ws ≡ printedWords r out
 
-pub text-is : (sheet ws : List ℕ) (r : Reply) (out : List ℕ) {out′ : List ℕ} → r ≡ reply sheet ws 0 (2 * mostRounds) → length ws ≤ mostWords
-    → length out ≡ 2 * mostRounds → length out′ ≡ length out → out′ ≡ output sheet ws 0 out → TextIs sheet ws r out′
+pub text-is : (sheet ws : List ℕ) (r : Reply) (out : List ℕ) {out′ : List ℕ} → r ≡ reply fourth sheet ws 0 (2 * mostRounds) → length ws ≤ mostWords
+    → length out ≡ 2 * mostRounds → length out′ ≡ length out → out′ ≡ output fourth sheet ws 0 out → TextIs sheet ws r out′
 text-is sheet ws r out {out′} e h l l′ o = go (eqb (r .number) 0) refl
   where
     go : (t : Bool) → eqb (r .number) 0 ≡ t → TextIs sheet ws r out′

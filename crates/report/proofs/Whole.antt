@@ -10,14 +10,14 @@ use lib.Seq.{take-length}
 use borrow.Author.Tests.{eq-eqb, ne-eqb, lt-ltb, ltb-true}
 use Rattle.sheet.specs.Sheet.{mostRounds, longest}
 use Rattle.reply.specs.Reply.{numbered, ofRefusal}
-use Rattle.tally.specs.Verdict.{verdict}
-use Rattle.selection.specs.Choice.{reply}
+use Rattle.tally.specs.Verdict.{verdictBy}
+use Rattle.selection.specs.Choice.{fourth, reply}
 use Rattle.report.specs.Report.{sheetWords, randomWords, refusedLine, textOf, report, WholeTheorem}
 use Rattle.report.proofs.Words.{length-words}
 use Rattle.report.proofs.Reports.{text-refused}
 
-long-refused : (sheet ws : List ℕ) → longest < length sheet → reply sheet ws 0 (2 * mostRounds) ≡ ofRefusal (numbered 1 (length sheet))
-unfolding reply verdict
+long-refused : (sheet ws : List ℕ) → longest < length sheet → reply fourth sheet ws 0 (2 * mostRounds) ≡ ofRefusal (numbered 1 (length sheet))
+unfolding reply verdictBy
 long-refused sheet ws l = rw (lt-ltb longest (length sheet) l, ne-eqb (length sheet) 0 (omega arith))
 
 pub whole : WholeTheorem

@@ -8,7 +8,7 @@ use lib.ListN.{length, getD, take, drop}
 use Rattle.probability.specs.Pieces.{pieces}
 use Rattle.sheet.specs.Sheet.{mostRounds, longest, payload, placeOf, lifts}
 use Rattle.reply.specs.Reply.{Numbered, numbered, Reply}
-use Rattle.selection.specs.Choice.{Choice, Panel, chosen, short, panel, reply}
+use Rattle.selection.specs.Choice.{fourth, Choice, Panel, chosen, short, panel, reply}
 
 -- ---- the files
 
@@ -104,7 +104,7 @@ choicesOf (short r) = []
 
 -- the text of a sheet and random words: "starting at 0", with an output that every sheet's choices fit
 unfoldable pub textOf : List ℕ → List ℕ → List ℕ
-textOf sheet ws = printed (reply sheet ws 0 (2 * mostRounds)) (choiceLines (choicesOf (panel (lifts sheet) ws 0)))
+textOf sheet ws = printed (reply fourth sheet ws 0 (2 * mostRounds)) (choiceLines (choicesOf (panel fourth (lifts sheet) ws 0)))
 
 -- the whole text, from the sheet's bytes, its true length in bytes, and the bytes of the words: "A sheet of bytes not divisible by 4,
 -- however long, is refusal 1 with its byte length as place."

@@ -19,8 +19,7 @@ use Rattle.probability.proofs.Fractions.{≈-refl, ⊗-≈, ⊗-part, cancel, s
 use Rattle.probability.proofs.Masses.{mass-even, mass-hits}
 use Rattle.round.specs.Round.{Weight, weightAt, growth, G}
 use Rattle.round.specs.Choice.{selection, drawPlace, stayOr, keyfitz}
-use Rattle.round.specs.Share.{chooses}
-use Rattle.round.specs.Keep.{smaller}
+use Rattle.round.specs.Share.{chooses, smaller, SameSum, Exact, Staying}
 use Rattle.round.proofs.WeightSums.{loss, losses, dropped-G}
 
 abbrev pub none : Weight
@@ -131,35 +130,41 @@ every-stayOr P w stay move f g h = go (leb (w .old) (w .new)) refl
     go true e = f (leb-true (w .old) (w .new) e)
     go false e = let l = leb-false (w .old) (w .new) e in (omega arith, λ r _. drawn r (ltb r (w .new)) refl l)
 
-module _ (ws : List Weight) (N : ℕ) (p : 0 < N) (e : total (map (λ w. w .old) ws) ≡ N) (f : total (map (λ w. w .new) ws) ≡ N) where
+module _ {ws : List Weight} {N : ℕ} (q : SameSum ws N) where
   common : (i : ℕ) (H : ℕ) → i < length ws → (0 < G ws → G ws ≡ H) → weightAt ws i .new < weightAt ws i .old → G ws ≡ H
-  common i H l h m = h (dropped-G ws i (e ∙ sym f) l m)
+  common i H l h m = h (dropped-G ws i (q .olds ∙ sym (q .news)) l m)
 
   -- every unit that may be preliminary has its update
-  pub drawable : (i : ℕ) → i < length ws → Drawable (keyfitz ws i)
+  drawable : (i : ℕ) → i < length ws → Drawable (keyfitz ws i)
   unfolding Every keyfitz drawPlace
   drawable i l =
-      every-stayOr (λ _. Unit {0}) (weightAt ws i) (done (selection i false)) _ (λ _. tt) (λ _. tt) (λ m. (dropped-G ws i (e ∙ sym f) l m, λ _ _. tt))
+      every-stayOr (λ _. Unit {0}) (weightAt ws i) (done (selection i false)) _ (λ _. tt) (λ _. tt) (λ m. (dropped-G ws i (q .olds ∙ sym (q .news)) l m, λ _ _. tt))
 
   -- from a unit of old weight above 0 the update leads to one of new weight above 0
   pub arrival : (i : ℕ) → 0 < weightAt ws i .old → i < length ws → Every (λ s. 0 < weightAt ws (s .place) .new) (keyfitz ws i)
   unfolding Every keyfitz drawPlace G
   arrival i o l =
       every-stayOr (λ s. 0 < weightAt ws (s .place) .new) (weightAt ws i) (done (selection i false)) _ (λ m. omega arith) (λ m. m)
-      (λ m. (dropped-G ws i (e ∙ sym f) l m, λ q k. grown (pick (map growth ws) q) (pick-some (map growth ws) q k)))
+      (λ m. (dropped-G ws i (q .olds ∙ sym (q .news)) l m, λ v k. grown (pick (map growth ws) v) (pick-some (map growth ws) v k)))
     where
       grown : (j : ℕ) → 0 < getD (map growth ws) j 0 → 0 < weightAt ws j .new
       grown j h = let g : getD (map growth ws) j 0 ≡ growth (weightAt ws j) = List·getD-map growth ws j none in omega arith
 
   -- each unit has its new weight
-  pub updated : (j : ℕ) → j < length ws → sum (length ws) (λ i. weightAt ws i .old // N ⊗ mass (chooses j) (keyfitz ws i)) ≈ weightAt ws j .new // N
+  updated : (j : ℕ) → j < length ws → sum (length ws) (λ i. weightAt ws i .old // N ⊗ mass (chooses j) (keyfitz ws i)) ≈ weightAt ws j .new // N
   updated j l =
-      let (H, q, h) = unit-of (G ws) in
-      cancel H (rw (arrives ws H h (losses ws (e ∙ sym f)) j l) at
-      (sum-same (length ws) (mul-pos p q) (λ i k. unit ws i j N H l p q (common i H k h))))
+      let (H, p, h) = unit-of (G ws) in
+      cancel H (rw (arrives ws H h (losses ws (q .olds ∙ sym (q .news))) j l) at
+      (sum-same (length ws) (mul-pos (q .positive) p) (λ i k. unit ws i j N H l (q .positive) p (common i H k h))))
 
   -- the smaller weights stay
-  pub stays : sum (length ws) (λ i. weightAt ws i .old // N ⊗ mass (chooses i) (keyfitz ws i)) ≈ total (map smaller ws) // N
+  stays : sum (length ws) (λ i. weightAt ws i .old // N ⊗ mass (chooses i) (keyfitz ws i)) ≈ total (map smaller ws) // N
   stays =
-      let (H, q, h) = unit-of (G ws) in
-      cancel H (rw (own ws H) at (sum-same (length ws) (mul-pos p q) (λ i k. unit ws i i N H k p q (common i H k h))))
+      let (H, p, h) = unit-of (G ws) in
+      cancel H (rw (own ws H) at (sum-same (length ws) (mul-pos (q .positive) p) (λ i k. unit ws i i N H k (q .positive) p (common i H k h))))
+
+pub keyfitz-exact : Exact keyfitz
+keyfitz-exact = record { drawable = drawable; exact = updated }
+
+pub keyfitz-staying : Staying keyfitz
+keyfitz-staying = record { stays = stays }

@@ -1,41 +1,42 @@
 -- The laws of a round's weights, draws and outcomes, put together.
-use Prim.Native.Nat.{ℕ, zero, suc, _*_, _≤_, _<_}
-use mathlib.Core.Path.{sym, _∙_}
+use Prim.Native.Nat.{ℕ, zero, suc, _+_, _*_, _≤_, _<_}
+use mathlib.Core.Path.{_≡_, refl, sym, _∙_}
 use mathlib.Core.Bool.{Bool, true, false, cond}
 use mathlib.Core.List.{List, [], _∷_, map}
+use native.Mathlib.Nat.{mul-pos}
 use native.Mathlib.Omega.{arith}
 use lib.ListN.{length, List·getD-map}
 use lib.Dec.{leb, ltb}
+use borrow.Author.Tests.{leb-true, leb-false}
 use Rattle.probability.proofs.Sums.{map-le}
 use Rattle.probability.specs.Interval.{pick}
+use Rattle.probability.specs.Initial.{Initial, here, elsewhere}
 use Rattle.probability.specs.Plan.{Plan, done, draw, bind, Every, Drawable, DrawsAtMost}
+use Rattle.probability.specs.Side.{Side, absent, present, join, updateOr, EveryTaken, Placed}
 use Rattle.probability.proofs.Intervals.{pick-some}
 use Rattle.probability.proofs.Fractions.{pos-left}
-use Rattle.probability.proofs.Masses.{every-map}
-use Rattle.round.specs.Round.{liftAt, S, D, Weight, oldWeight, newWeight, weights, weightAt, WellPosed}
-use Rattle.round.specs.Choice.{Selection, Preliminary, noPreliminary, preliminaryAt, drawPlace, fresh, firstOdds, preliminaryBy, stayOr, keyfitz, select, plan, isHeld, outcome}
-use Rattle.round.specs.Rows.{Bounded, Stands}
+use Rattle.probability.proofs.Masses.{every-map, every-after}
+use Rattle.probability.proofs.Dichotomy.{every-cond}
+use Rattle.round.specs.Round.{liftAt, S, D, Weight, oldWeight, newWeight, weights, weightAt, wholeSums, WellPosed}
+use Rattle.round.specs.Choice.{drawPlace, fresh, single, initialAt, firstOdds, preliminaryBy, preliminary, stayOr, keyfitz, planBy, plan, outcome}
+use Rattle.round.specs.Rows.{liftOfMeasures, Bounded, IfHere, Inside, Stands}
 use Rattle.round.specs.Law.{Fits64, Weighty, LawsTheorem}
 use Rattle.round.specs.declared.Donors.{Donors}
 use Rattle.round.specs.declared.Donors.the-variants.{None, One, Two}
-use Rattle.round.specs.declared.Held.{Held}
-use Rattle.round.specs.declared.Held.the-variants.{Neither, Single, Both}
 use Rattle.round.specs.declared.Lift.{Lift}
-use Rattle.round.proofs.WeightSums.{old-sum, new-sum, losses, dropped-G, G-le, D-bound, weight-bound, one-positive, two-positive}
-use Rattle.round.proofs.Keyfitz.{none, arrival}
-use Rattle.round.proofs.Shares.{length-weights, every-fresh, every-plan}
+use Rattle.round.proofs.WeightSums.{old-sum, new-sum, losses, dropped-G, G-le, D-bound, weight-bound}
+use Rattle.round.proofs.Keyfitz.{none, arrival, keyfitz-exact}
+use Rattle.round.proofs.Preliminaries.{knows}
+use Rattle.round.proofs.Shares.{length-weights, same-sum, every-fresh, every-side}
 
 -- ---- outcomes
 
 -- an outcome is 1, 2 or 3
-pub outcome-between : (h : Held) (s : Selection) → (1 ≤ outcome h s) × (outcome h s ≤ 3)
+pub outcome-between : (held dropped : Bool) → (1 ≤ outcome held dropped) × (outcome held dropped ≤ 3)
 unfolding outcome
-outcome-between h s = go (isHeld h (s .place)) (s .dropped)
-  where
-    go : (x y : Bool) → (1 ≤ cond x 1 (cond y 2 3)) × (cond x 1 (cond y 2 3) ≤ 3)
-    go true y = (omega arith, omega arith)
-    go false true = (omega arith, omega arith)
-    go false false = (omega arith, omega arith)
+outcome-between true y = (omega arith, omega arith)
+outcome-between false true = (omega arith, omega arith)
+outcome-between false false = (omega arith, omega arith)
 
 -- ---- at most three draws
 
@@ -59,32 +60,87 @@ within-keyfitz : (ws : List Weight) (i : ℕ) → DrawsAtMost 2 (keyfitz ws i)
 unfolding DrawsAtMost keyfitz drawPlace
 within-keyfitz ws i = within-stayOr 1 (weightAt ws i) _ _ tt (λ q _. tt)
 
-within-select : (ds : Donors) (ls : List Lift) (a : Preliminary) → DrawsAtMost 2 (select ds ls a)
-unfolding DrawsAtMost select drawPlace
-within-select ds ls noPreliminary = λ v l. tt
-within-select ds ls (preliminaryAt i) = within-keyfitz (weights ds ls) i
+-- the preliminary lift takes at most one draw, and its update n + 1
+within-join : {A : Type 0} (b o n : ℕ) (update : ℕ → Plan A) (fresh : Plan A) → ((i : ℕ) → DrawsAtMost (suc n) (update i)) → DrawsAtMost (suc n) fresh
+    → (x y : Initial) → DrawsAtMost (suc (suc n)) (updateOr update fresh (join b o (single x) (single y)))
+unfolding DrawsAtMost updateOr join single bind
+within-join b o n update fresh u f elsewhere elsewhere = within-more (suc n) fresh f
+within-join b o n update fresh u f elsewhere (here j) = within-more (suc n) (update j) (u j)
+within-join b o n update fresh u f (here i) elsewhere = within-more (suc n) (update i) (u i)
+within-join b o n update fresh u f (here i) (here j) = λ v l. go (ltb v o)
+  where
+    go : (t : Bool) → DrawsAtMost (suc n) (bind (cond t (done i) (done j)) update)
+    go true = u i
+    go false = u j
 
-three : (ds : Donors) (ls : List Lift) (h : Held) → DrawsAtMost 3 (plan ds ls h)
-unfolding DrawsAtMost plan preliminaryBy bind
-three ds ls Neither = within-more 2 (select ds ls noPreliminary) (within-select ds ls noPreliminary)
-three ds ls (Single i) = within-more 2 (select ds ls (preliminaryAt i)) (within-select ds ls (preliminaryAt i))
-three ds ls (Both i j) = λ v l. within-select ds ls (preliminaryAt (cond (ltb v (firstOdds ds ls)) i j))
+three : (ds : Donors) (ls : List Lift) (xs : List Initial) → DrawsAtMost 3 (plan ds ls xs)
+unfolding DrawsAtMost planBy preliminaryBy drawPlace
+three ds ls xs = within-join (D ds ls) (firstOdds ds ls) 1 (keyfitz (weights ds ls)) (fresh ls) (within-keyfitz (weights ds ls)) (λ v l. tt) (initialAt xs 0) (initialAt xs 1)
 
 -- ---- every draw has a value
 
-drawable : (ds : Donors) (ls : List Lift) → WellPosed ds ls → (h : Held) → Stands ds h (length ls) → Drawable (plan ds ls h)
-unfolding plan preliminaryBy bind select
-drawable None ls f Neither s = every-fresh ls (f .positive)
-drawable None ls f (Single i) s = absurd s
-drawable None ls f (Both i j) s = absurd s
-drawable (One T) ls f Neither s = every-fresh ls (f .positive)
-drawable (One T) ls f (Single i) s = every-plan (One T) ls (f .positive) (one-positive (f .donate)) (Single i) s
-drawable (One T) ls f (Both i j) s = absurd s
-drawable (Two T₁ T₂) ls f Neither s = every-fresh ls (f .positive)
-drawable (Two T₁ T₂) ls f (Single i) s = every-plan (Two T₁ T₂) ls (f .positive) (two-positive (f .donate .0) (f .donate .1)) (Single i) s
-drawable (Two T₁ T₂) ls f (Both i j) s = every-plan (Two T₁ T₂) ls (f .positive) (two-positive (f .donate .0) (f .donate .1)) (Both i j) s
+-- what holds of the lifts held here holds of the preliminary lift, and there is a bound to draw below where both are here
+pub every-preliminary : (R : ℕ → Type 0) (b o : ℕ) (x y : Initial) → IfHere R x → IfHere R y → ((i j : ℕ) → x ≡ here i → y ≡ here j → 0 < b)
+    → EveryTaken R (join b o (single x) (single y))
+unfolding Every join single
+every-preliminary R b o elsewhere elsewhere u v p = tt
+every-preliminary R b o elsewhere (here j) u v p = v
+every-preliminary R b o (here i) elsewhere u v p = u
+every-preliminary R b o (here i) (here j) u v p = (p i j refl refl, λ a _. every-cond R (ltb a o) (done i) (done j) u v)
+
+-- the held lift of a donor stands in the round; without that donor it is elsewhere
+stands-at : (Ts : List ℕ) (xs : List Initial) (n : ℕ) → Stands Ts xs n → (k : ℕ) → Inside n (initialAt xs k) × (length Ts ≤ k → initialAt xs k ≡ elsewhere)
+stands-at Ts [] n s k = (tt, λ _. refl)
+stands-at [] (x ∷ xs) n s zero = (rw (s .0) tt, λ _. s .0)
+stands-at [] (x ∷ xs) n s (suc k) = let r = stands-at [] xs n (s .1) k in (r .0, λ _. r .1 (omega arith))
+stands-at (T ∷ Ts) (x ∷ xs) n s zero = (s .0, λ l. absurd (omega arith))
+stands-at (T ∷ Ts) (x ∷ xs) n s (suc k) = let r = stands-at Ts xs n (s .1) k in (r .0, λ l. r .1 (omega arith))
+
+-- the held lifts of the first two donors, and none without a donor
+pub stands-two : (Ts : List ℕ) (xs : List Initial) (n : ℕ) → Stands Ts xs n → Stands Ts (initialAt xs 0 ∷ initialAt xs 1 ∷ []) n
+stands-two [] xs n s = (stands-at [] xs n s 0 .1 (omega arith), (stands-at [] xs n s 1 .1 (omega arith), tt))
+stands-two (T ∷ []) xs n s = (stands-at (T ∷ []) xs n s 0 .0, (stands-at (T ∷ []) xs n s 1 .1 (omega arith), tt))
+stands-two (T ∷ T′ ∷ Ts) xs n s = (stands-at (T ∷ T′ ∷ Ts) xs n s 0 .0, (stands-at (T ∷ T′ ∷ Ts) xs n s 1 .0, tt))
+
+module _ (ds : Donors) (ls : List Lift) (f : WellPosed ds ls) (xs : List Initial) (s : Stands (wholeSums ds) xs (length ls)) where
+  -- where a held lift is here there is a donor
+  pub donor-D : (k i : ℕ) → initialAt xs k ≡ here i → 0 < D ds ls
+  donor-D k i e = go (leb 1 (length (wholeSums ds))) refl
+    where
+      go : (t : Bool) → leb 1 (length (wholeSums ds)) ≡ t → 0 < D ds ls
+      go true q = knows ds ls (leb-true 1 (length (wholeSums ds)) q) (f .donate) .known .divisor
+      go false q =
+          let none = stands-at (wholeSums ds) xs (length ls) s k .1 (omega (arith, leb-false 1 (length (wholeSums ds)) q)) in
+          let z : _≡_ {A = ℕ} 0 1 = cc in absurd (omega arith)
+
+  pub placed-preliminary : Placed (length ls) (preliminary ds ls xs)
+  unfolding preliminaryBy
+  placed-preliminary =
+      every-preliminary (λ i. i < length ls) (D ds ls) (firstOdds ds ls) (initialAt xs 0) (initialAt xs 1)
+      (stands-at (wholeSums ds) xs (length ls) s 0 .0) (stands-at (wholeSums ds) xs (length ls) s 1 .0) (λ i j e _. donor-D 0 i e)
+
+drawable : (ds : Donors) (ls : List Lift) → WellPosed ds ls → (xs : List Initial) → Stands (wholeSums ds) xs (length ls) → Drawable (plan ds ls xs)
+unfolding planBy preliminaryBy single join updateOr
+drawable None ls f xs s = rw (stands-at [] xs (length ls) s 0 .1 (omega arith), stands-at [] xs (length ls) s 1 .1 (omega arith)) (every-fresh ls (f .positive))
+drawable (One T) ls f xs s =
+    every-side keyfitz keyfitz-exact (One T) ls (f .positive) (knows (One T) ls (omega arith) (f .donate)) (preliminary (One T) ls xs) (placed-preliminary (One T) ls f xs s)
+drawable (Two T₁ T₂) ls f xs s =
+    every-side keyfitz keyfitz-exact (Two T₁ T₂) ls (f .positive) (knows (Two T₁ T₂) ls (omega arith) (f .donate)) (preliminary (Two T₁ T₂) ls xs) (placed-preliminary (Two T₁ T₂) ls f xs s)
 
 -- ---- a lift of new measure 0 is never chosen
+
+-- a donor's lift of old measure above 0 has an old weight above 0
+pub donor-weight : (ds : Donors) (ls : List Lift) → WellPosed ds ls → (k : ℕ) → 1 ≤ k → k ≤ length (wholeSums ds) → (m b : ℕ) → 0 < m
+    → 0 < oldWeight ds ls (liftOfMeasures m k b)
+unfolding oldWeight
+donor-weight None ls f k l h m b p = absurd (omega arith)
+donor-weight (One T) ls f k l h m b p = let e : k ≡ 1 = omega arith in rw e (mul-pos p (f .positive))
+donor-weight (Two T₁ T₂) ls f (suc zero) l h m b p =
+    mul-pos {m = m * T₂ + 0 * T₁} (let q : 0 < m * T₂ = mul-pos p (omega (arith, f .donate .1 .0 .some, f .donate .1 .0 .part)) in omega arith) (f .positive)
+donor-weight (Two T₁ T₂) ls f (suc (suc zero)) l h m b p =
+    mul-pos {m = 0 * T₂ + m * T₁} (let q : 0 < m * T₁ = mul-pos p (omega (arith, f .donate .0 .some, f .donate .0 .part)) in omega arith) (f .positive)
+donor-weight (Two T₁ T₂) ls f (suc (suc (suc k))) l h m b p = absurd (omega arith)
+donor-weight (Two T₁ T₂) ls f zero l h m b p = absurd (omega arith)
 
 new-some : (ds : Donors) (ls : List Lift) (j : ℕ) → 0 < weightAt (weights ds ls) j .new → 0 < liftAt ls j .new
 unfolding weights newWeight
@@ -112,18 +168,27 @@ module _ (ds : Donors) (ls : List Lift) (p : 0 < S ls) where
 
   chosen-update : (i : ℕ) → 0 < weightAt (weights ds ls) i .old → Every (λ s. 0 < liftAt ls (s .place) .new) (keyfitz (weights ds ls) i)
   chosen-update i h =
-      every-map (λ s. new-some ds ls (s .place)) (keyfitz (weights ds ls) i)
-      (arrival (weights ds ls) (D ds ls * S ls) (whole i h) (old-sum ds ls) (new-sum ds ls) i h (weight-in (weights ds ls) i h))
+      every-map (λ s. new-some ds ls (s .place)) (keyfitz (weights ds ls) i) (arrival (same-sum ds ls (whole i h)) i h (weight-in (weights ds ls) i h))
 
-  chosen : (h : Held) → Weighty ds ls h → Every (λ s. 0 < liftAt ls (s .place) .new) (plan ds ls h)
-  unfolding Every plan preliminaryBy bind select
-  chosen Neither w = chosen-fresh
-  chosen (Single i) w = chosen-update i w
-  chosen (Both i j) w = (pos-left (D ds ls) (S ls) (whole i (w .0)), λ v _. go (ltb v (firstOdds ds ls)))
-    where
-      go : (b : Bool) → Every (λ s. 0 < liftAt ls (s .place) .new) (keyfitz (weights ds ls) (cond b i j))
-      go true = chosen-update i (w .0)
-      go false = chosen-update j (w .1)
+  abbrev Weighs : ℕ → Type 0
+  Weighs i = 0 < weightAt (weights ds ls) i .old
+
+  weighty-at : (xs : List Initial) → Weighty ds ls xs → (k : ℕ) → IfHere Weighs (initialAt xs k)
+  weighty-at [] w k = tt
+  weighty-at (x ∷ xs) w zero = w .0
+  weighty-at (x ∷ xs) w (suc k) = weighty-at xs (w .1) k
+
+  chosen-side : (s : Side) → EveryTaken Weighs s → Every (λ s. 0 < liftAt ls (s .place) .new) (updateOr (keyfitz (weights ds ls)) (fresh ls) s)
+  unfolding updateOr
+  chosen-side absent w = chosen-fresh
+  chosen-side (present q) w = every-after Weighs (λ s. 0 < liftAt ls (s .place) .new) q (keyfitz (weights ds ls)) w chosen-update
+
+  chosen : (xs : List Initial) → Weighty ds ls xs → Every (λ s. 0 < liftAt ls (s .place) .new) (plan ds ls xs)
+  unfolding planBy preliminaryBy
+  chosen xs w =
+      let u = weighty-at xs w 0 in
+      chosen-side (preliminary ds ls xs) (every-preliminary Weighs (D ds ls) (firstOdds ds ls) (initialAt xs 0) (initialAt xs 1) u (weighty-at xs w 1)
+      (λ i j e _. pos-left (D ds ls) (S ls) (whole i (rw e at u))))
 
 small : (ds : Donors) (ls : List Lift) → WellPosed ds ls → Bounded ds ls → Fits64 ds ls
 small ds ls f b =

@@ -12,17 +12,16 @@ use lib.Dec.{eqb}
 use borrow.Author.Tests.{eqb-true}
 use Rattle.probability.specs.Sum.{total}
 use Rattle.probability.proofs.Sums.{total-map, total-mul}
-use Rattle.round.specs.Round.{S, U, measureFrom, D, oldWeight, newWeight, Weight, weights, growth, G, WellPosed}
-use Rattle.round.specs.Choice.{preliminaryAt, drawPlace, fresh, firstOdds, keyfitz, select}
-use Rattle.round.specs.Rows.{HasSums, ProductsFit, scaled, scaleOf, wholly, WeightsFit, Balanced, capacity, Bounded, Stands, Callable}
+use Rattle.round.specs.Round.{S, U, measureFrom, D, oldWeight, newWeight, Weight, weights, growth, G, wholeSums, WellPosed}
+use Rattle.round.specs.Choice.{drawPlace, fresh, firstOdds}
+use Rattle.round.specs.Rows.{HasSums, ProductsFit, scaled, scaleOf, wholly, WeightsFit, Balanced, capacity, Bounded, SumsBounded, Callable}
 use Rattle.round.specs.declared.Donors.{Donors}
 use Rattle.round.specs.declared.Donors.the-variants.{None, One, Two}
 use Rattle.round.specs.declared.Held.{Held}
-use Rattle.round.specs.declared.Held.the-variants.{Single, Both}
 use Rattle.round.specs.declared.Lift.{Lift}
 use Rattle.round.specs.declared.Scale.{Scale}
 use Rattle.round.specs.declared.Sums.{Sums}
-use Rattle.round.proofs.WeightSums.{old-sum, new-sum, two-positive, weight-bound}
+use Rattle.round.proofs.WeightSums.{old-sum, new-sum, came, weight-bound}
 
 -- ---- the multipliers of a round
 
@@ -42,7 +41,7 @@ old-scaled None ls l = omega (arith, multiplied (scaleOf None ls) l)
 old-scaled (One T) ls l = omega (arith, multiplied (scaleOf (One T) ls) l)
 old-scaled (Two T₁ T₂) ls l = omega (arith, multiplied (scaleOf (Two T₁ T₂) ls) l)
 
-weights-scaled : (ds : Donors) (ls : List Lift) → weights ds ls ≡ map (scaled (scaleOf ds ls)) ls
+pub weights-scaled : (ds : Donors) (ls : List Lift) → weights ds ls ≡ map (scaled (scaleOf ds ls)) ls
 unfolding weights newWeight
 weights-scaled ds ls =
     ap (λ f. map f ls) (fun-ext (λ l. ap (λ m. record { old = m; new = l .new * D ds ls }) (old-scaled ds ls l)))
@@ -85,108 +84,60 @@ whole-positive {ls = ls} f = rw (whole-G ls) (f .positive)
 
 -- with two donors each sum and each product has room
 module _ {ds : Donors} {T₁ T₂ : ℕ} (t : Sums) (e : ds ≡ Two T₁ T₂) (m : ProductsFit ds t) where
-  small : ((T₁ ≤ capacity) × (T₂ ≤ capacity)) × ((t .new ≤ capacity) × (t .first ≤ capacity) × (t .second ≤ capacity))
+  small : SumsBounded (T₁ ∷ T₂ ∷ []) × ((t .new ≤ capacity) × (t .first ≤ capacity) × (t .second ≤ capacity))
   small = rw e at m
 
   pub first-part : Fits w64 (t .first * T₂)
-  first-part = omega (arith, mul-le-mul (small .1 .1) (small .0 .1))
+  first-part = omega (arith, mul-le-mul (small .1 .1) (small .0 .1 .0))
 
   pub second-part : Fits w64 (t .second * T₁)
   second-part = omega (arith, mul-le-mul (small .1 .2) (small .0 .0))
 
   pub both-parts : Fits w64 (t .first * T₂ + t .second * T₁)
-  both-parts = omega (arith, mul-le-mul (small .1 .1) (small .0 .1), mul-le-mul (small .1 .2) (small .0 .0))
+  both-parts = omega (arith, mul-le-mul (small .1 .1) (small .0 .1 .0), mul-le-mul (small .1 .2) (small .0 .0))
 
   pub first-times : Fits w64 (T₁ * t .new)
   first-times = omega (arith, mul-le-mul (small .0 .0) (small .1 .0))
 
   pub second-times : Fits w64 (T₂ * t .new)
-  second-times = omega (arith, mul-le-mul (small .0 .1) (small .1 .0))
+  second-times = omega (arith, mul-le-mul (small .0 .1 .0) (small .1 .0))
 
 pub multipliable : (ds : Donors) {ls : List Lift} (t : Sums) → HasSums ds ls t → WellPosed ds ls → Bounded ds ls → ProductsFit ds t
 multipliable None t e f b = tt
 multipliable (One T) t e f b = tt
-multipliable (Two T₁ T₂) t e f b =
-    (b .old, (omega (arith, e .0, b .new), omega (arith, e .1, f .donate .0 .part, b .old .0), omega (arith, e .2, f .donate .1 .part, b .old .1)))
+multipliable (Two T₁ T₂) {ls} t e f b =
+    let u = came 1 (T₁ ∷ T₂ ∷ []) ls (f .donate) (b .old) in
+    (b .old, (omega (arith, e .new, b .new), omega (arith, e .first (omega arith), u 0 (omega arith)), omega (arith, e .second (omega arith), u 1 (omega arith))))
 
+-- the multipliers from the sums of a round, by the document's cases
 scales : {d x y u v o : ℕ} → x ≡ u → y ≡ v → _≡_ {A = Scale} (record { new = d; first = x; second = y; odds = o }) (record { new = d; first = u; second = v; odds = o })
 scales {d} {o = o} = ap₂ (λ a b. record { new = d; first = a; second = b; odds = o })
 
--- the multipliers from the sums of a round
-module _ {ds : Donors} (t : Sums) (ls : List Lift) (u : HasSums ds ls t) where
-  pub scale-none : ds ≡ None → _≡_ {A = Scale} (record { new = 0; first = 0; second = 0; odds = 0 }) (scaleOf ds ls)
-  unfolding D oldWeight firstOdds
-  scale-none e = rw e
+unfoldable pub multipliers : (ds : Donors) (t : Sums) → Scale
+multipliers None t = record { new = 0; first = 0; second = 0; odds = 0 }
+multipliers (One T) t = record { new = t .first; first = t .new; second = 0; odds = 0 }
+multipliers (Two T₁ T₂) t = record { new = t .first * T₂ + t .second * T₁; first = T₂ * t .new; second = T₁ * t .new; odds = t .second * T₁ }
 
-  pub scale-one : {T : ℕ} → ds ≡ One T → _≡_ {A = Scale} (record { new = t .first; first = t .new; second = 0; odds = 0 }) (scaleOf ds ls)
-  unfolding D oldWeight firstOdds
-  scale-one e = let k = rw e at u in rw (e, k .0, k .1) (scales (omega arith) (omega arith))
-
-  pub scale-two : {T₁ T₂ : ℕ} → ds ≡ Two T₁ T₂ → _≡_ {A = Scale} (record { new = t .first * T₂ + t .second * T₁; first = T₂ * t .new; second = T₁ * t .new; odds = t .second * T₁ }) (scaleOf ds ls)
-  unfolding D oldWeight firstOdds
-  scale-two e = let k = rw e at u in rw (e, k .0, k .1, k .2) (scales (omega arith) (omega arith))
+pub multiplied-by : (ds : Donors) (t : Sums) (ls : List Lift) → HasSums ds ls t → multipliers ds t ≡ scaleOf ds ls
+unfolding multipliers D oldWeight firstOdds
+multiplied-by None t ls u = refl
+multiplied-by (One T) t ls u = rw (u .new, u .first (omega arith)) (scales (omega arith) (omega arith))
+multiplied-by (Two T₁ T₂) t ls u = rw (u .new, u .first (omega arith), u .second (omega arith)) (scales (omega arith) (omega arith))
 
 -- what came from a donor has room
-module _ {ds : Donors} {ls : List Lift} (f : WellPosed ds ls) (b : Bounded ds ls) where
-  pub one-came : {T : ℕ} → ds ≡ One T → U 1 ls ≤ 2 ^ 61
-  one-came e = let g = rw e at f in let c = rw e at b in omega (arith, g .donate .part, c .old)
-
-  pub first-came : {T₁ T₂ : ℕ} → ds ≡ Two T₁ T₂ → U 1 ls ≤ 2 ^ 61
-  first-came e = let g = rw e at f in let c = rw e at b in omega (arith, g .donate .0 .part, c .old .0)
-
-  pub second-came : {T₁ T₂ : ℕ} → ds ≡ Two T₁ T₂ → U 2 ls ≤ 2 ^ 61
-  second-came e = let g = rw e at f in let c = rw e at b in omega (arith, g .donate .1 .part, c .old .1)
+pub came-room : {ds : Donors} {ls : List Lift} → WellPosed ds ls → Bounded ds ls → (i : ℕ) → i < length (wholeSums ds) → U (1 + i) ls ≤ 2 ^ 61
+came-room {ds} {ls} f b i l = omega (arith, came 1 (wholeSums ds) ls (f .donate) (b .old) i l)
 
 -- the sums of a round, from S as the sum of the whole growths
-pub none-summed : {ds : Donors} (ls : List Lift) (t : Sums) → ds ≡ None → HasSums ds ls t
-none-summed ls t e = rw e tt
-
-module _ {ds : Donors} (ls : List Lift) {n : ℕ} (w : n ≡ G (map (scaled wholly) ls)) where
-  pub one-summed : {T u : ℕ} → ds ≡ One T → u ≡ U 1 ls → HasSums ds ls (record { new = n; first = u; second = 0 })
-  one-summed e x = rw e (w ∙ whole-G ls, x)
-
-  pub two-summed : {T₁ T₂ u v : ℕ} → ds ≡ Two T₁ T₂ → u ≡ U 1 ls → v ≡ U 2 ls → HasSums ds ls (record { new = n; first = u; second = v })
-  two-summed e x y = rw e (w ∙ whole-G ls, x, y)
-
--- ---- what a caller shows
-
--- a held lift stands at a place of the round
-pub single-inside : {D : Donors} {ls : List Lift} {h : Held} {i : ℕ} → h ≡ Single i → Callable D ls h → i < length ls
-single-inside {D} {ls} {i = i} e c = go D (rw e at (c .stands))
-  where
-    go : (D : Donors) → Stands D (Single i) (length ls) → i < length ls
-    go None s = absurd s
-    go (One T) s = s
-    go (Two T₁ T₂) s = s
-
--- and so do both
-pub both-inside : {D : Donors} {ls : List Lift} {i j : ℕ} → Callable D ls (Both i j) → (i < length ls) × (j < length ls)
-both-inside {D} {ls} {i} {j} c = go D (c .stands)
-  where
-    go : (D : Donors) → Stands D (Both i j) (length ls) → (i < length ls) × (j < length ls)
-    go None s = absurd s
-    go (One T) s = absurd s
-    go (Two T₁ T₂) s = s
-
--- both are here only with two donors, so there is something to draw below
-both-D : (ds : Donors) (ls : List Lift) {i j : ℕ} → Callable ds ls (Both i j) → 0 < D ds ls
-both-D None ls c = absurd (c .stands)
-both-D (One T) ls c = absurd (c .stands)
-both-D (Two T₁ T₂) ls c = let d = c .fitting .donate in two-positive (d .0) (d .1)
-
-pub both-drawable : {ds : Donors} {ls : List Lift} {s : Scale} {i j : ℕ} → s ≡ scaleOf ds ls → Callable ds ls (Both i j) → 1 ≤ s .new
-both-drawable {ds} {ls} e c = rw e (both-D ds ls c)
-
--- all that an update asks
-pub updatable : {D : Donors} {ls : List Lift} {s : Scale} {h : Held} {i : ℕ} → s ≡ scaleOf D ls → Callable D ls h → i < length ls
-    → WeightsFit s ls × (Balanced s ls × (i < length ls))
-updatable {D} e c k = (scale-room e (c .fitting) (c .bounded), (scale-balanced D e, k))
+pub summed : (ds : Donors) (ls : List Lift) {n u v : ℕ} → n ≡ G (map (scaled wholly) ls) → (1 ≤ length (wholeSums ds) → u ≡ U 1 ls) → (2 ≤ length (wholeSums ds) → v ≡ U 2 ls)
+    → HasSums ds ls (record { new = n; first = u; second = v })
+summed ds ls w x y = record { new = w ∙ whole-G ls; first = x; second = y }
 
 -- ---- the choice by the multipliers
 
+-- all that an update asks
+pub updatable : {ds : Donors} {ls : List Lift} {s : Scale} → s ≡ scaleOf ds ls → WellPosed ds ls → Bounded ds ls → WeightsFit s ls × Balanced s ls
+updatable {ds} e f b = (scale-room e f b, scale-balanced ds e)
+
 pub fresh-scaled : (ls : List Lift) → fresh ls ≡ drawPlace (G (map (scaled wholly) ls)) (map growth (map (scaled wholly) ls)) false
 fresh-scaled ls = rw (whole-G, whole-growth)
-
-pub select-scaled : (ds : Donors) (ls : List Lift) (i : ℕ) → select ds ls (preliminaryAt i) ≡ keyfitz (map (scaled (scaleOf ds ls)) ls) i
-unfolding select
-select-scaled ds ls i = rw weights-scaled

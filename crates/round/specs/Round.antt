@@ -1,7 +1,7 @@
 -- "One round" of document 01: the lifts of a new round, its sums, and the weights and growths of its lifts. A lift is the code's
 -- `Lift`: old measure, donor and new measure.
-use Prim.Native.Nat.{ℕ, _+_, _-_, _*_, _≤_, _<_}
-use mathlib.Core.List.{List, map}
+use Prim.Native.Nat.{ℕ, suc, _+_, _-_, _*_, _≤_, _<_}
+use mathlib.Core.List.{List, [], _∷_, map}
 use lib.ListN.{getD}
 use Rattle.probability.specs.Sum.{total, valueBy, totalBy}
 use Rattle.round.specs.declared.Donors.{Donors}
@@ -67,13 +67,18 @@ pub record IsDonor (k T : ℕ) (ls : List Lift) : Type 0 where
   pub some : 0 < U k ls
   pub part : U k ls ≤ T
 
--- the donors of a round send it measure
-abbrev pub AreDonors : Donors → List Lift → Type 0
-AreDonors None ls = Unit {0}
-AreDonors (One T) ls = IsDonor 1 T ls
-AreDonors (Two T₁ T₂) ls = IsDonor 1 T₁ ls × IsDonor 2 T₂ ls
+-- the whole old sums of the donors, in the order of their numbers
+abbrev pub wholeSums : Donors → List ℕ
+wholeSums None = []
+wholeSums (One T) = T ∷ []
+wholeSums (Two T₁ T₂) = T₁ ∷ T₂ ∷ []
+
+-- the donors from number k up, of these whole old sums, send the round measure
+abbrev pub AreDonors : ℕ → List ℕ → List Lift → Type 0
+AreDonors k [] ls = Unit {0}
+AreDonors k (T ∷ Ts) ls = IsDonor k T ls × AreDonors (suc k) Ts ls
 
 -- the sum of the round is above 0 (refusal 9), and each donor sends it measure; every round of a fitting sheet is well-posed
 pub record WellPosed (ds : Donors) (ls : List Lift) : Type 0 where
   pub positive : 0 < S ls
-  pub donate : AreDonors ds ls
+  pub donate : AreDonors 1 (wholeSums ds) ls

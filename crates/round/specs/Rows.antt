@@ -2,19 +2,21 @@
 use Prim.Native.Nat.{ℕ, _+_, _-_, _*_, _^_, _≤_, _<_}
 use mathlib.Core.Path.{_≡_}
 use mathlib.Core.Bool.{cond}
-use mathlib.Core.List.{List, map}
+use mathlib.Core.List.{List, [], _∷_, map}
 use lib.ListN.{length, getD}
 use lib.Dec.{ltb, eqb}
 use Rattle.probability.specs.Sum.{total}
 use Rattle.probability.specs.Pieces.{pieces}
-use Rattle.round.specs.Round.{S, U, D, oldWeight, Weight, WellPosed}
+use Rattle.probability.specs.Initial.{Initial, here, elsewhere}
+use Rattle.round.specs.Round.{S, U, D, oldWeight, Weight, wholeSums, WellPosed}
 use Rattle.round.specs.Choice.{firstOdds}
 use Rattle.round.specs.declared.Donors.{Donors}
 use Rattle.round.specs.declared.Donors.the-variants.{None, One, Two}
 use Rattle.round.specs.declared.Held.{Held}
-use Rattle.round.specs.declared.Held.the-variants.{Neither, Single, Both}
 use Rattle.round.specs.declared.Lift.{Lift}
 use Rattle.round.specs.declared.Scale.{Scale}
+use Rattle.round.specs.declared.Seat.{Seat}
+use Rattle.round.specs.declared.Seat.the-variants.{Here, Elsewhere}
 use Rattle.round.specs.declared.Sums.{Sums}
 
 -- ---- what the code is given
@@ -39,46 +41,59 @@ rowLifts rows = map rowLift (pieces rowLength rows)
 abbrev pub capacity : ℕ
 capacity = 2 ^ 20
 
--- no donor's whole old sum is above the bound
-abbrev pub SumsBounded : Donors → Type 0
-SumsBounded None = Unit {0}
-SumsBounded (One T) = T ≤ capacity
-SumsBounded (Two T₁ T₂) = (T₁ ≤ capacity) × (T₂ ≤ capacity)
+-- no whole old sum is above the bound
+abbrev pub SumsBounded : List ℕ → Type 0
+SumsBounded [] = Unit {0}
+SumsBounded (T ∷ Ts) = (T ≤ capacity) × SumsBounded Ts
 
 -- no sum of the round is above the bound
 pub record Bounded (ds : Donors) (ls : List Lift) : Type 0 where
   pub new : S ls ≤ capacity
-  pub old : SumsBounded ds
+  pub old : SumsBounded (wholeSums ds)
 
--- held lifts stand at places of the round; there is one only with a donor, and both only with two
-abbrev pub Stands : Donors → Held → ℕ → Type 0
-Stands ds Neither n = Unit {0}
-Stands None (Single i) n = ⊥
-Stands (One T) (Single i) n = i < n
-Stands (Two T₁ T₂) (Single i) n = i < n
-Stands None (Both i j) n = ⊥
-Stands (One T) (Both i j) n = ⊥
-Stands (Two T₁ T₂) (Both i j) n = (i < n) × (j < n)
+-- where a held lift is
+abbrev pub initialOf : Seat → Initial
+initialOf (Here i) = here i
+initialOf Elsewhere = elsewhere
+
+-- where the held lifts of donor 1 and donor 2 are
+abbrev pub initials : Held → List Initial
+initials h = initialOf (h .first) ∷ initialOf (h .second) ∷ []
+
+-- the place of a held lift that is here satisfies R
+abbrev pub IfHere : (ℕ → Type 0) → Initial → Type 0
+IfHere R (here i) = R i
+IfHere R elsewhere = Unit {0}
+
+-- a held lift that is here stands at a place below n
+abbrev pub Inside : ℕ → Initial → Type 0
+Inside n x = IfHere (λ i. i < n) x
+
+-- the held lifts of the donors of these whole old sums stand at places below n, and there is none without a donor
+abbrev pub Stands : List ℕ → List Initial → ℕ → Type 0
+Stands Ts [] n = Unit {0}
+Stands [] (x ∷ xs) n = (x ≡ elsewhere) × Stands [] xs n
+Stands (T ∷ Ts) (x ∷ xs) n = Inside n x × Stands Ts xs n
 
 -- what a caller must show of a round and its held lifts; those of every fitting sheet have it
 pub record Callable (ds : Donors) (ls : List Lift) (h : Held) : Type 0 where
   pub fitting : WellPosed ds ls
   pub bounded : Bounded ds ls
-  pub stands : Stands ds h (length ls)
+  pub stands : Stands (wholeSums ds) (initials h) (length ls)
 
 -- ---- how the code computes
 
--- these are the sums of the round: S, and U of each donor; without a donor none is used
-abbrev pub HasSums : Donors → List Lift → Sums → Type 0
-HasSums None ls t = Unit {0}
-HasSums (One T) ls t = (t .new ≡ S ls) × (t .first ≡ U 1 ls)
-HasSums (Two T₁ T₂) ls t = (t .new ≡ S ls) × (t .first ≡ U 1 ls) × (t .second ≡ U 2 ls)
+-- these are the sums of the round: S, and U of each of its donors
+pub record HasSums (ds : Donors) (ls : List Lift) (t : Sums) : Type 0 where
+  pub new : t .new ≡ S ls
+  pub first : 1 ≤ length (wholeSums ds) → t .first ≡ U 1 ls
+  pub second : 2 ≤ length (wholeSums ds) → t .second ≡ U 2 ls
 
 -- with two donors the products of the sums fit 64 bits
 abbrev pub ProductsFit : Donors → Sums → Type 0
 ProductsFit None t = Unit {0}
 ProductsFit (One T) t = Unit {0}
-ProductsFit (Two T₁ T₂) t = SumsBounded (Two T₁ T₂) × ((t .new ≤ capacity) × (t .first ≤ capacity) × (t .second ≤ capacity))
+ProductsFit (Two T₁ T₂) t = SumsBounded (T₁ ∷ T₂ ∷ []) × ((t .new ≤ capacity) × (t .first ≤ capacity) × (t .second ≤ capacity))
 
 -- what a donor's old measures are multiplied by
 abbrev pub multiplierOf : Scale → ℕ → ℕ
@@ -121,7 +136,7 @@ abbrev pub blockEnd : ℕ → ℕ → ℕ
 blockEnd a n = cond (ltb (n - a) blockLength) n (a + blockLength)
 
 -- if both donors' lifts are held here, there is a bound to draw below
-abbrev pub Contested : Scale → Held → Type 0
-Contested s Neither = Unit {0}
-Contested s (Single i) = Unit {0}
-Contested s (Both i j) = 1 ≤ s .new
+abbrev pub Contested : Scale → Seat → Seat → Type 0
+Contested s (Here i) (Here j) = 1 ≤ s .new
+Contested s (Here i) Elsewhere = Unit {0}
+Contested s Elsewhere y = Unit {0}

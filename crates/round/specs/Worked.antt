@@ -1,7 +1,7 @@
 -- The document's small rounds worked through, M1 to M11, as one table, and its figures; and the exact shares and keeping of small rounds: to
 -- be computed.
 use Prim.Native.Nat.{ℕ, _-_, _^_}
-use mathlib.Core.Bool.{Bool, true, false, _&&_}
+use mathlib.Core.Bool.{Bool, _&&_}
 use mathlib.Core.List.{List, [], _∷_, map}
 use lib.Dec.{eqb}
 use lib.ListN.{getD}
@@ -12,27 +12,31 @@ use Rattle.draw.specs.Worked.{sameDrawn}
 use Rattle.draw.specs.declared.Drawn.{Drawn}
 use Rattle.draw.specs.declared.Drawn.the-variants.{Value, Short as Ended}
 use Rattle.round.specs.Round.{liftAt, S, D, weights, G}
-use Rattle.round.specs.Choice.{selected}
+use Rattle.probability.specs.Initial.{Initial, here, elsewhere}
+use Rattle.round.specs.Choice.{keyfitz, isHeld, outcome, selected}
 use Rattle.round.specs.Share.{roundShare}
 use Rattle.round.specs.Keep.{roundKept, tickets, keptTickets}
 use Rattle.round.specs.Rows.{liftOfMeasures}
 use Rattle.round.specs.declared.Donors.{Donors}
 use Rattle.round.specs.declared.Donors.the-variants.{None, One, Two}
-use Rattle.round.specs.declared.Held.{Held}
-use Rattle.round.specs.declared.Held.the-variants.{Neither, Single, Both}
 use Rattle.round.specs.declared.Lift.{Lift}
 use Rattle.round.specs.declared.Selected.{Selected}
 use Rattle.round.specs.declared.Selected.the-variants.{At, Short}
 
-abbrev pub sameSelected : Selected → Selected → Bool
-sameSelected (At i o n) (At j p m) = eqb i j && (eqb o p && eqb n m)
-sameSelected (At i o n) Short = false
-sameSelected Short (At j p m) = false
-sameSelected Short Short = true
+-- the place of the chosen lift, the outcome, and the position behind the last word read
+abbrev chose : ℕ → ℕ → ℕ → List ℕ
+chose i o n = i ∷ o ∷ n ∷ []
 
--- a round, its held lifts and random words, and the choice
-abbrev chosen : Donors → List Lift → Held → List ℕ → Selected → Bool
-chosen ds ls h ws a = sameSelected (selected ds ls h ws 0) a
+abbrev outOfWords : List ℕ
+outOfWords = []
+
+abbrev numbersOf : List Initial → Selected → List ℕ
+numbersOf xs (At i d n) = chose i (outcome (isHeld xs i) d) n
+numbersOf xs Short = outOfWords
+
+-- a round, where its donors' held lifts are and random words, and the choice
+abbrev chosen : Donors → List Lift → List Initial → List ℕ → List ℕ → Bool
+chosen ds ls xs ws a = same (numbersOf xs (selected ds ls xs ws 0)) a
 
 -- a bound and random words, and what a draw finds
 abbrev drawn : ℕ → List ℕ → Drawn → Bool
@@ -74,32 +78,32 @@ bothGrow = liftOfMeasures 4 1 1 ∷ liftOfMeasures 1 1 2 ∷ liftOfMeasures 1 1 
 -- M1 to M11 in the document's order, M11, "always dropped", for each r; then sentences of it that no M shows
 abbrev pub cases : List Bool
 cases =
-    chosen (One 10) three (Single 1) (9 ∷ []) (At 1 1 1)
-    ∷ chosen (One 10) three (Single 1) (10 ∷ 0 ∷ []) (At 0 2 2)
-    ∷ chosen (One 10) three (Single 2) [] (At 2 1 0)
+    chosen (One 10) three (here 1 ∷ []) (9 ∷ []) (chose 1 1 1)
+    ∷ chosen (One 10) three (here 1 ∷ []) (10 ∷ 0 ∷ []) (chose 0 2 2)
+    ∷ chosen (One 10) three (here 2 ∷ []) [] (chose 2 1 0)
     ∷ drawn 3 ((2 ^ 64 - 1) ∷ []) Ended
     ∷ drawn 3 ((2 ^ 64 - 2) ∷ []) (Value 2 1)
-    ∷ chosen (Two 4 6) two (Both 0 1) (11 ∷ []) (At 0 1 1)
-    ∷ chosen (Two 4 6) two (Both 0 1) (12 ∷ 17 ∷ []) (At 1 1 2)
-    ∷ chosen (Two 4 6) two (Both 0 1) (12 ∷ 18 ∷ 5 ∷ []) (At 0 1 3)
-    ∷ chosen (Two 4 6) two Neither (1 ∷ []) (At 1 3 1)
-    ∷ chosen (Two 4 6) two (Single 1) (18 ∷ 0 ∷ []) (At 0 2 2)
-    ∷ chosen (One 10) noChance (Single 0) (0 ∷ 0 ∷ []) (At 1 2 2)
-    ∷ chosen (One 10) noChance (Single 0) (1 ∷ 0 ∷ []) (At 1 2 2)
-    ∷ chosen (One 10) noChance (Single 0) (2 ∷ 0 ∷ []) (At 1 2 2)
+    ∷ chosen (Two 4 6) two (here 0 ∷ here 1 ∷ []) (11 ∷ []) (chose 0 1 1)
+    ∷ chosen (Two 4 6) two (here 0 ∷ here 1 ∷ []) (12 ∷ 17 ∷ []) (chose 1 1 2)
+    ∷ chosen (Two 4 6) two (here 0 ∷ here 1 ∷ []) (12 ∷ 18 ∷ 5 ∷ []) (chose 0 1 3)
+    ∷ chosen (Two 4 6) two (elsewhere ∷ elsewhere ∷ []) (1 ∷ []) (chose 1 3 1)
+    ∷ chosen (Two 4 6) two (elsewhere ∷ here 1 ∷ []) (18 ∷ 0 ∷ []) (chose 0 2 2)
+    ∷ chosen (One 10) noChance (here 0 ∷ []) (0 ∷ 0 ∷ []) (chose 1 2 2)
+    ∷ chosen (One 10) noChance (here 0 ∷ []) (1 ∷ 0 ∷ []) (chose 1 2 2)
+    ∷ chosen (One 10) noChance (here 0 ∷ []) (2 ∷ 0 ∷ []) (chose 1 2 2)
     -- "A draw below 1 uses a word too."
-    ∷ chosen None alone Neither [] Short
-    ∷ chosen None alone Neither (5 ∷ []) (At 0 3 1)
+    ∷ chosen None alone [] [] outOfWords
+    ∷ chosen None alone [] (5 ∷ []) (chose 0 3 1)
     -- "it stays if r is less than its new weight", which is 6: r is 5, and in the cases after this one 6
-    ∷ chosen (One 6) bothGrow (Single 0) (29 ∷ []) (At 0 1 1)
+    ∷ chosen (One 6) bothGrow (here 0 ∷ []) (29 ∷ []) (chose 0 1 1)
     -- "draw q below G and take the lift in whose stretch q falls, the growths above zero laid end to end in lift order": q is 5, and 6
-    ∷ chosen (One 6) bothGrow (Single 0) (30 ∷ 23 ∷ []) (At 1 2 2)
-    ∷ chosen (One 6) bothGrow (Single 0) (30 ∷ 24 ∷ []) (At 2 2 2)
+    ∷ chosen (One 6) bothGrow (here 0 ∷ []) (30 ∷ 23 ∷ []) (chose 1 2 2)
+    ∷ chosen (One 6) bothGrow (here 0 ∷ []) (30 ∷ 24 ∷ []) (chose 2 2 2)
     ∷ []
 
 -- the lift at place j has exactly b over S
 abbrev shares : Donors → List Lift → ℕ → Bool
-shares ds ls j = sameFraction (roundShare ds ls j) (liftAt ls j .new // S ls)
+shares ds ls j = sameFraction (roundShare keyfitz ds ls j) (liftAt ls j .new // S ls)
 
 -- old 1, 2, new 2, 1, of one donor: the first lift grows, the second shrinks
 abbrev pub exchanged : List Lift
@@ -120,4 +124,4 @@ rule i j = getD (getD ((3 ∷ 0 ∷ []) ∷ (3 ∷ 3 ∷ []) ∷ []) i []) j 0
 
 -- "It keeps the tickets where both lifts are one.": 6 of 9, and so much "the ways weigh whose lift is held in their own marking"
 abbrev pub keepingCases : List Bool
-keepingCases = eqb (tickets 2 rule) 9 ∷ eqb (keptTickets 2 rule) 6 ∷ sameFraction (roundKept (One 3) exchanged) (6 // 9) ∷ []
+keepingCases = eqb (tickets 2 rule) 9 ∷ eqb (keptTickets 2 rule) 6 ∷ sameFraction (roundKept keyfitz (One 3) exchanged) (6 // 9) ∷ []

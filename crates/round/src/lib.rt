@@ -1,14 +1,17 @@
 // One round: which of its lifts is to carry the recorder ("One round" of document 01). The round is lent as rows in lift
 // order, one for each lift, of four numbers: lift number, donor (1 or 2, 0 for none), old measure and new measure.
 ghost use mathlib.Core.Path.{_≡_};
-ghost use mathlib.Core.List.{map};
+ghost use mathlib.Core.List.{[], _∷_, map};
 ghost use Prim.Native.Nat.{_≤_, _<_};
 ghost use lib.ListN.{length};
 ghost use Rattle.draw.specs.Draw.{largest};
 ghost use Rattle.draw.specs.Run.{run};
 ghost use Rattle.round.specs.Round.{growth, G};
-ghost use Rattle.round.specs.Choice.{drawPlace, preliminaryBy, keyfitz, isHeld, outcome as outcomeOf, selection, proposed, answer, selected};
-ghost use Rattle.round.specs.Rows.{rowLifts, Callable, HasSums, scaled, WeightsFit, Balanced, Contested};
+ghost use lib.Dec.{ltb};
+ghost use mathlib.Core.Bool.{cond};
+ghost use Rattle.probability.specs.Plan.{done, draw as drawOf};
+ghost use Rattle.round.specs.Choice.{drawPlace, preliminaryBy, keyfitz, isAt, isHeld, outcome as outcomeOf, placed, proposed, answer, selected};
+ghost use Rattle.round.specs.Rows.{rowLifts, initialOf, initials, Callable, HasSums, scaled, WeightsFit, Balanced, Contested};
 use draw::Drawn;
 use picking::pick_lift;
 use weights::growth_sum;
@@ -28,16 +31,22 @@ pub enum Donors {
     Two(u64, u64),
 }
 
-// Where the donors' held lifts stand in the round: no held lift here, one, or both (donor 1's and donor 2's).
-pub enum Held {
-    Neither,
-    Single(usize),
-    Both(usize, usize),
+// Where a donor's held lift is: at a place of the round, or elsewhere.
+pub enum Seat {
+    Here(usize),
+    Elsewhere,
 }
 
-// The place of the chosen lift in the round, the document's outcome, and the position behind the last word read; or the words ended.
+// Where the held lifts of donor 1 and donor 2 are; elsewhere for a donor that there is not.
+pub struct Held {
+    pub first: Seat,
+    pub second: Seat,
+}
+
+// The place of the chosen lift in the round, whether a preliminary lift was dropped for it, and the position behind the last word read; or
+// the words ended.
 pub enum Selected {
-    At(usize, u32, usize),
+    At(usize, bool, usize),
     Short,
 }
 
@@ -84,22 +93,33 @@ const WHOLLY: Scale = Scale {
     odds: 0,
 };
 
-// Whether the lift at a place is held.
-fn is_held(held: Held, place: usize) -> bool
-    ensures { λ r. ⌜ r ≡ isHeld held place ⌝ }
+// Whether a held lift is at a place.
+fn is_at(seat: Seat, place: usize) -> bool
+    ensures { λ r. ⌜ r ≡ isAt (initialOf seat) place ⌝ }
 {
-    match held {
-        Held::Neither => false,
-        Held::Single(a) => a == place,
-        Held::Both(a, b) => a == place || b == place,
+    match seat {
+        Seat::Here(i) => i == place,
+        Seat::Elsewhere => false,
     }
 }
 
-// The document's outcome of a choice.
-fn outcome(held: Held, place: usize, dropped: bool) -> u32
-    ensures { λ r. ⌜ r ≡ outcomeOf held (selection place dropped) ⌝ }
+// Whether the lift at a place is one of the held lifts.
+pub fn is_held(held: Held, place: usize) -> bool
+    ensures { λ r. ⌜ r ≡ isHeld (initials held) place ⌝ }
 {
-    if is_held(held, place) {
+    let first = held.first;
+    let second = held.second;
+    if is_at(first, place) {
+        return true;
+    }
+    is_at(second, place)
+}
+
+// The document's outcome of a choice.
+pub fn outcome(held: bool, dropped: bool) -> u32
+    ensures { λ r. ⌜ r ≡ outcomeOf held dropped ⌝ }
+{
+    if held {
         return 1;
     }
     if dropped {
@@ -109,69 +129,75 @@ fn outcome(held: Held, place: usize, dropped: bool) -> u32
 }
 
 // A draw below the sum of the growths picks the lift in whose interval it falls.
-fn draw_lift(
-    s: Scale,
-    rows: &[u32],
-    held: Held,
-    dropped: bool,
-    words: &[u64],
-    at: usize,
-) -> Selected
+fn draw_lift(s: Scale, rows: &[u32], dropped: bool, words: &[u64], at: usize) -> Selected
     requires { ⌜ WeightsFit s (rowLifts (now rows)) ⌝ }
     requires { ⌜ 1 ≤ G (map (scaled s) (rowLifts (now rows))) ⌝ }
-    ensures { λ r. ⌜ (let ws = map (scaled s) (rowLifts (now (rows .entry))) in r ≡ answer held (run largest (now (words .entry)) at (drawPlace (G ws) (map growth ws) dropped))) ⌝ }
+    ensures { λ r. ⌜ (let ws = map (scaled s) (rowLifts (now (rows .entry))) in r ≡ answer (run largest (now (words .entry)) at (drawPlace (G ws) (map growth ws) dropped))) ⌝ }
 {
     let bound = growth_sum(s, rows);
     match draw::draw_from(words, at, bound) {
         Drawn::Value(q, next) => {
             let place = pick_lift(s, rows, q);
-            Selected::At(place, outcome(held, place, dropped), next)
+            Selected::At(place, dropped, next)
         }
         Drawn::Short => Selected::Short,
     }
 }
 
 // Keyfitz's update of the preliminary lift at place i.
-fn update(s: Scale, rows: &[u32], held: Held, i: usize, words: &[u64], at: usize) -> Selected
+fn update(s: Scale, rows: &[u32], i: usize, words: &[u64], at: usize) -> Selected
     requires { ⌜ WeightsFit s (rowLifts (now rows)) ⌝ }
     requires { ⌜ Balanced s (rowLifts (now rows)) ⌝ }
     requires { ⌜ i < length (rowLifts (now rows)) ⌝ }
-    ensures { λ r. ⌜ r ≡ answer held (run largest (now (words .entry)) at (keyfitz (map (scaled s) (rowLifts (now (rows .entry)))) i)) ⌝ }
+    ensures { λ r. ⌜ r ≡ answer (run largest (now (words .entry)) at (keyfitz (map (scaled s) (rowLifts (now (rows .entry)))) i)) ⌝ }
 {
     let l = lift_at(rows, i);
     let before = l.old * multiplier(s, l.donor);
     let after = l.new * s.new;
     if before <= after {
-        return Selected::At(i, outcome(held, i, false), at);
+        return Selected::At(i, false, at);
     }
     match draw::draw_from(words, at, before) {
         Drawn::Value(r, next) => {
             if r < after {
-                Selected::At(i, outcome(held, i, false), next)
+                Selected::At(i, false, next)
             } else {
-                draw_lift(s, rows, held, true, words, next)
+                draw_lift(s, rows, true, words, next)
             }
         }
         Drawn::Short => Selected::Short,
     }
 }
 
-// The preliminary lift, from the held lifts: of two here, a draw says which.
-fn find_preliminary(s: Scale, held: Held, words: &[u64], at: usize) -> Proposed
-    requires { ⌜ Contested s held ⌝ }
-    ensures { λ r. ⌜ r ≡ proposed (run largest (now (words .entry)) at (preliminaryBy (s .new) (s .odds) held)) ⌝ }
+// One of two held lifts, by a draw.
+fn draw_between(s: Scale, i: usize, j: usize, words: &[u64], at: usize) -> Proposed
+    requires { ⌜ 1 ≤ s .new ⌝ }
+    ensures { λ r. ⌜ r ≡ placed (run largest (now (words .entry)) at (drawOf (s .new) (λ v. cond (ltb v (s .odds)) (done i) (done j)))) ⌝ }
 {
-    match held {
-        Held::Neither => Proposed::None,
-        Held::Single(i) => Proposed::At(i, at),
-        Held::Both(i, j) => match draw::draw_from(words, at, s.new) {
-            Drawn::Value(v, next) => {
-                if v < s.odds {
-                    return Proposed::At(i, next);
-                }
-                Proposed::At(j, next)
+    match draw::draw_from(words, at, s.new) {
+        Drawn::Value(v, next) => {
+            if v < s.odds {
+                return Proposed::At(i, next);
             }
-            Drawn::Short => Proposed::Short,
+            Proposed::At(j, next)
+        }
+        Drawn::Short => Proposed::Short,
+    }
+}
+
+// The preliminary lift, from the held lifts: of two here, a draw says which.
+fn find_preliminary(s: Scale, first: Seat, second: Seat, words: &[u64], at: usize) -> Proposed
+    requires { ⌜ Contested s first second ⌝ }
+    ensures { λ r. ⌜ r ≡ proposed (now (words .entry)) at (preliminaryBy (s .new) (s .odds) (initialOf first ∷ initialOf second ∷ [])) ⌝ }
+{
+    match first {
+        Seat::Elsewhere => match second {
+            Seat::Elsewhere => Proposed::None,
+            Seat::Here(j) => Proposed::At(j, at),
+        },
+        Seat::Here(i) => match second {
+            Seat::Elsewhere => Proposed::At(i, at),
+            Seat::Here(j) => draw_between(s, i, j, words, at),
         },
     }
 }
@@ -187,12 +213,14 @@ pub fn select(
 ) -> Selected
     requires { ⌜ Callable donors (rowLifts (now rows)) held ⌝ }
     requires { ⌜ HasSums donors (rowLifts (now rows)) t ⌝ }
-    ensures { λ r. ⌜ r ≡ selected donors (rowLifts (now (rows .entry))) held (now (words .entry)) at ⌝ }
+    ensures { λ r. ⌜ r ≡ selected donors (rowLifts (now (rows .entry))) (initials held) (now (words .entry)) at ⌝ }
 {
+    let first = held.first;
+    let second = held.second;
     let s = scaling(t, donors);
-    match find_preliminary(s, held, words, at) {
-        Proposed::None => draw_lift(WHOLLY, rows, held, false, words, at),
-        Proposed::At(i, next) => update(s, rows, held, i, words, next),
+    match find_preliminary(s, first, second, words, at) {
+        Proposed::None => draw_lift(WHOLLY, rows, false, words, at),
+        Proposed::At(i, next) => update(s, rows, i, words, next),
         Proposed::Short => Selected::Short,
     }
 }

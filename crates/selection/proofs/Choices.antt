@@ -10,10 +10,11 @@ use Rattle.round.proofs.Laws.{outcome-between}
 use Rattle.sheet.specs.Sheet.{mostRounds, Lift}
 use Rattle.tally.specs.Rounds.{liftCount, inUse, ofRound}
 use Rattle.sheet.specs.Law.{AllWellFormed}
-use Rattle.tally.specs.Law.{Fit}
+use Rattle.tally.specs.Law.{FitBy}
+use Rattle.reply.specs.declared.Refusal.{Refusal}
 use Rattle.sheet.specs.Lift.{New}
 use Rattle.tally.proofs.Ranges.{Rising, filter-few, filter-rise}
-use Rattle.selection.specs.Choice.{heldOfRound, liftInRound, noLift, Choice}
+use Rattle.selection.specs.Choice.{liftInRound, noLift, Way, Choice}
 use Rattle.selection.proofs.Steps.{Steps, none, some}
 
 -- lift numbers have room in a word's payload
@@ -44,12 +45,12 @@ rises-sound a [] d = all-none Sound
 rises-sound a (c ∷ cs) d = all-more Sound (d .1) (rises-sound (suc (c .round)) cs (d .2))
 
 -- those of rising rounds
-steps-rise : {ls : List Lift} {ws : List ℕ} {from next : ℕ} {rs : List ℕ} {cs : List Choice} → AllWellFormed 0 ls → Steps ls ws from rs cs next
+steps-rise : {way : Way} {ls : List Lift} {ws : List ℕ} {from next : ℕ} {rs : List ℕ} {cs : List Choice} → AllWellFormed 0 ls → Steps way ls ws from rs cs next
     → (a : ℕ) → Rising (λ r. r ≤ mostRounds) a rs → Rises a cs
 unfolding liftInRound
 steps-rise d none a k = tt
-steps-rise {ls} d (some {r = r} {s = s} q rest) a k =
-    let o = outcome-between (heldOfRound r ls) s in (
+steps-rise {ls = ls} d (some {r = r} {s = s} q rest) a k =
+    let o = outcome-between (liftInRound r ls (s .place) .held) (s .dropped) in (
       k .0,
       record {
         upto = k .1;
@@ -61,8 +62,8 @@ steps-rise {ls} d (some {r = r} {s = s} q rest) a k =
     )
 
 -- those of all new rounds
-pub panel-rises : {ls : List Lift} {ws : List ℕ} {start next : ℕ} {cs : List Choice} → Fit ls → Steps ls ws start (inUse New ls) cs next → Rises 1 cs
-panel-rises {ls} f k = steps-rise (f .wellFormed .listed) k 1 (filter-rise (λ r. r ≤ mostRounds) (λ r. ltb 0 (liftCount New r ls)) 1 mostRounds (λ r l m e. omega arith))
+pub panel-rises : {refuses : List Lift → List Refusal} {way : Way} {ls : List Lift} {ws : List ℕ} {start next : ℕ} {cs : List Choice} → FitBy refuses ls → Steps way ls ws start (inUse New ls) cs next → Rises 1 cs
+panel-rises {ls = ls} f k = steps-rise (f .wellFormed .listed) k 1 (filter-rise (λ r. r ≤ mostRounds) (λ r. ltb 0 (liftCount New r ls)) 1 mostRounds (λ r l m e. omega arith))
 
 -- which are few
 pub few-rounds : (ls : List Lift) → length (inUse New ls) ≤ mostRounds

@@ -1,34 +1,32 @@
 -- What a round of lifts that fit chooses: a lift of that round whose new measure is above 0, since its held lifts have weight.
-use Prim.Native.Nat.{ℕ, zero, suc, _*_, _≤_, _<_}
-use mathlib.Core.Path.{_≡_, refl}
+use Prim.Native.Nat.{ℕ, zero, suc, _+_, _≤_, _<_}
+use mathlib.Core.Path.{_≡_, refl, ap, _∙_}
 use mathlib.Core.Bool.{Bool, true, false, cond, _&&_, and-eq-true-iff, false≢true}
 use mathlib.Core.List.{List, [], _∷_, map, List·Memᴰ, List·Memᴰ·head, List·Memᴰ·tail}
-use native.Mathlib.Nat.{mul-pos}
 use native.Mathlib.Omega.{arith}
 use lib.Dec.{eqb}
-use lib.ListN.{getD}
+use lib.ListN.{length, length-map, getD}
 use borrow.Author.Tests.{eqb-true, eq-eqb}
+use Rattle.probability.specs.Initial.{Initial, here, elsewhere}
 use Rattle.probability.proofs.Lists.{all-getD}
 use Rattle.draw.specs.Draw.{largest}
 use Rattle.draw.specs.Run.{finished, run}
 use Rattle.draw.proofs.Runs.{run-every}
-use Rattle.round.specs.Round.{liftAt as roundLiftAt, S, AreDonors, Weight, oldWeight, weights, weightAt}
-use Rattle.round.specs.Choice.{Selection}
+use Rattle.round.specs.Round.{liftAt as roundLiftAt, Weight, oldWeight, weights, weightAt, wholeSums, WellPosed}
+use Rattle.round.specs.Choice.{Selection, keyfitz}
 use Rattle.round.specs.Law.{Weighty}
-use Rattle.round.specs.Rows.{liftOfMeasures}
-use Rattle.probability.specs.Initial.{Initial, here, elsewhere}
-use Rattle.round.specs.Share.{heldOf}
+use Rattle.round.specs.Rows.{liftOfMeasures, IfHere}
 use Rattle.round.specs.declared.Donors.{Donors}
 use Rattle.round.specs.declared.Lift.{Lift as RoundLift}
-use Rattle.round.proofs.Laws.{lawful}
+use Rattle.round.proofs.Laws.{donor-weight, lawful}
 use Rattle.sheet.specs.Sheet.{mostRounds, Lift}
 use Rattle.tally.specs.Law.{Fit}
-use Rattle.sheet.specs.Lift.{Old, New, placeAt}
-use Rattle.tally.specs.Rounds.{liftCount, sumOf, donors, ofRound, donorNumber, further, heldAt}
-use Rattle.selection.specs.Choice.{withSums, donorsOf, inRound, liftsOf, heldAmong, heldOfRound, planOf, noLift, liftInRound}
+use Rattle.sheet.specs.Lift.{New, placeAt}
+use Rattle.tally.specs.Rounds.{liftCount, donors, ofRound, donorNumber, further, heldAt}
+use Rattle.selection.specs.Choice.{donorsOf, inRound, liftsOf, heldOfRound, planOf, noLift, liftInRound}
 use Rattle.selection.proofs.Held.{proper}
 use Rattle.selection.proofs.Flags.{ofRound-all}
-use Rattle.selection.proofs.RoundsFit.{Senders, none, one, two, senders, number-first, number-second, round-fits}
+use Rattle.selection.proofs.RoundsFit.{Keys, donor-keys, wholeOf, donors-sums, round-fits}
 
 -- ---- held lifts have weight
 
@@ -80,39 +78,18 @@ module _ {ls : List Lift} (f : Fit ls) (r : ℕ) where
       let s = stood t us i e in
       rw (weights-at _ _ us i (s .held), s .from) (h _ _ (some-measure i (s .held)))
 
-  weigh : (ds : List ℕ) → Senders r ls ds → 0 < S (rows ds) → AreDonors (withSums (λ t. sumOf Old t ls) ds) (rows ds) → Weighty (withSums (λ t. sumOf Old t ls) ds) (rows ds) (heldAmong (λ t. heldAt t us) ds)
-  unfolding oldWeight
-  weigh [] none p d = tt
-  weigh (t ∷ []) (one s l h) p d = go (heldAt t us) refl
+  -- the key of a donor is its number
+  weigh : (D : Donors) (ds : List ℕ) → WellPosed D (rows ds) → (k : ℕ) (es : List ℕ) → Keys (donorNumber ds) k es → 1 ≤ k → k + length es ≤ suc (length (wholeSums D))
+      → Weighty D (rows ds) (map (λ t. heldAt t us) es)
+  weigh D ds p k [] q l h = tt
+  weigh D ds p k (t ∷ es) q l h = (go (heldAt t us) refl, weigh D ds p (suc k) es (q .1) (omega arith) (omega arith))
     where
-      first : (m b : ℕ) → 0 < m → 0 < oldWeight (withSums (λ t. sumOf Old t ls) (t ∷ [])) (rows (t ∷ [])) (liftOfMeasures m (donorNumber (t ∷ []) t) b)
-      first m b q = rw (eq-eqb t t refl) (mul-pos q p)
+      number : donorNumber ds t ≡ k
+      number = eqb-true (donorNumber ds t) k (q .0 t ∙ eq-eqb t t refl)
 
-      go : (x : Initial) → heldAt t us ≡ x → Weighty (withSums (λ t. sumOf Old t ls) (t ∷ [])) (rows (t ∷ [])) (heldOf x elsewhere)
-      go (here i) e = weight-some (t ∷ []) (withSums (λ t. sumOf Old t ls) (t ∷ [])) t i e first
+      go : (x : Initial) → heldAt t us ≡ x → IfHere (λ i. 0 < weightAt (weights D (rows ds)) i .old) x
+      go (here i) e = weight-some ds D t i e (λ m b o. rw number (donor-weight D (rows ds) p k l (omega arith) m b o))
       go elsewhere e = tt
-  weigh (t ∷ v ∷ []) (two s k l m h) p d = go (heldAt t us) refl (heldAt v us) refl
-    where
-      ds : List ℕ
-      ds = t ∷ v ∷ []
-
-      first : (m b : ℕ) → 0 < m → 0 < oldWeight (withSums (λ t. sumOf Old t ls) ds) (rows ds) (liftOfMeasures m (donorNumber ds t) b)
-      first m b q =
-          let u : 0 < sumOf Old v ls = omega (arith, d .1 .some, d .1 .part) in
-          let x : 0 < m * sumOf Old v ls = mul-pos q u in
-          rw (number-first t (v ∷ []) t, eq-eqb t t refl) (mul-pos (omega arith) p)
-
-      second : (n b : ℕ) → 0 < n → 0 < oldWeight (withSums (λ t. sumOf Old t ls) ds) (rows ds) (liftOfMeasures n (donorNumber ds v) b)
-      second n b q =
-          let u : 0 < sumOf Old t ls = omega (arith, d .0 .some, d .0 .part) in
-          let x : 0 < n * sumOf Old t ls = mul-pos q u in
-          rw (number-second t v [] m v, eq-eqb v v refl) (mul-pos (omega arith) p)
-
-      go : (x : Initial) → heldAt t us ≡ x → (y : Initial) → heldAt v us ≡ y → Weighty (withSums (λ t. sumOf Old t ls) ds) (rows ds) (heldOf x y)
-      go (here i) a (here j) b = (weight-some ds (withSums (λ t. sumOf Old t ls) ds) t i a first, weight-some ds (withSums (λ t. sumOf Old t ls) ds) v j b second)
-      go (here i) a elsewhere b = weight-some ds (withSums (λ t. sumOf Old t ls) ds) t i a first
-      go elsewhere a (here j) b = weight-some ds (withSums (λ t. sumOf Old t ls) ds) v j b second
-      go elsewhere a elsewhere b = tt
 
 -- ---- the lift chosen
 
@@ -136,13 +113,14 @@ stands-in (v ∷ vs) (suc i) h = List·Memᴰ·tail (stands-in vs i h)
 
 module _ {ls : List Lift} (f : Fit ls) {r : ℕ} (low : 1 ≤ r) (high : r ≤ mostRounds) (used : 0 < liftCount New r ls) where
   -- on every path, and so in every run that ends
-  pub run-measured : (ws : List ℕ) (from : ℕ) {vs : List ℕ} {s : Selection} {next : ℕ} → run largest ws from (planOf r ls) ≡ finished vs s next
+  pub run-measured : (ws : List ℕ) (from : ℕ) {vs : List ℕ} {s : Selection} {next : ℕ} → run largest ws from (planOf keyfitz r ls) ≡ finished vs s next
       → Measured ls r (liftInRound r ls (s .place))
-  unfolding planOf donorsOf liftsOf heldOfRound liftInRound
+  unfolding planOf liftsOf heldOfRound liftInRound
   run-measured ws from {vs} {s} {next} e =
       let fits = round-fits f low high used in
-      let weighty = weigh f r (donors r ls) (senders f low high) (fits .positive) (fits .donate) in
+      let many = ap length (donors-sums f low high) ∙ length-map (donors r ls) (wholeOf ls) in
+      let weighty = weigh f r (donorsOf r ls) (donors r ls) fits 1 (donors r ls) (donor-keys r ls) (omega arith) (omega arith) in
       let p : 0 < placeAt New (liftInRound r ls (s .place)) .measure =
-      new-some _ (λ l. refl) (ofRound r ls) (s .place) (run-every _ largest (planOf r ls) (lawful (donorsOf r ls) (liftsOf r ls) .chosen (fits .positive) (heldOfRound r ls) weighty) ws from e) in
+      new-some _ (λ l. refl) (ofRound r ls) (s .place) (run-every _ largest (planOf keyfitz r ls) (lawful (donorsOf r ls) (liftsOf r ls) .chosen (fits .positive) (heldOfRound r ls) weighty) ws from e) in
       let a = ofRound-all (λ l. List·Memᴰ l ls × (l .new .round ≡ r)) r ls (λ l m q. (m, q)) _ (stands-in (ofRound r ls) (s .place) p) in
       record { inside = a .0; round = a .1; some = p }

@@ -1,46 +1,30 @@
 -- Where lifts fit, the marks of a round are the held lifts that its choice starts from.
 use Prim.Native.Nat.{ℕ, zero, suc, _≤_}
 use mathlib.Core.Path.{_≡_, refl, sym, ap, ap₂, _∙_}
-use mathlib.Core.Bool.{Bool, true, false, cond, _&&_, _||_, or-false, or-true, and-false, and-or-distrib-left, false≢true}
-use mathlib.Core.List.{List, [], _∷_, List·Memᴰ, List·Memᴰ·head, List·Memᴰ·tail, List·Memᴰ·not-nil, List·Memᴰ·cases-cons, List·Memᴰ·eq-of-singleton}
-use mathlib.Core.Logic.{_⊎_, inl, inr}
+use mathlib.Core.Bool.{Bool, true, false, cond, _&&_, _||_, or-true, and-false, and-or-distrib-left, false≢true}
+use mathlib.Core.List.{List, [], _∷_, map, List·Memᴰ, List·Memᴰ·head, List·Memᴰ·tail}
 use native.Mathlib.Nat.{le-trans}
 use native.Mathlib.Omega.{arith}
-use lib.Dec.{eqb, leb, eqb·suc-zero, eqb·zero-suc, eqb·suc-suc}
-use lib.ListN.{length, getD}
-use borrow.Author.Tests.{eqb-true, leb-false, eq-eqb, lt-ltb}
+use lib.Dec.{eqb, eqb·suc-zero, eqb·zero-suc, eqb·suc-suc}
+use lib.ListN.{getD}
+use borrow.Author.Tests.{eqb-true, eq-eqb, lt-ltb}
 use Rattle.probability.specs.Sum.{totalBy, indicator}
 use Rattle.probability.proofs.Lists.{All, all-none, all-keep, all-getD}
-use Rattle.round.specs.Choice.{isHeld}
+use Rattle.round.specs.Choice.{isAt, isHeld}
+use Rattle.probability.specs.Among.{among}
 use Rattle.probability.specs.Initial.{Initial, here, elsewhere}
-use Rattle.round.specs.Share.{heldOf}
+use Rattle.probability.proofs.Tests.{eqb-comm}
+use Rattle.reply.specs.declared.Refusal.{Refusal}
 use Rattle.sheet.specs.Sheet.{mostRounds, Lift}
 use Rattle.sheet.specs.Law.{AllWellFormed}
-use Rattle.tally.specs.Law.{Fit}
-use Rattle.tally.proofs.Sending.{at-most-two}
+use Rattle.tally.specs.Law.{FitBy}
 use Rattle.tally.proofs.Ranges.{filter-has}
 use Rattle.tally.specs.Rounds.{brings, sends, donors, ofRound, heldCount, further, heldAt}
-use Rattle.selection.specs.Choice.{heldAmong, heldOfRound, noLift, liftInRound}
+use Rattle.selection.specs.Choice.{heldOfRound, noLift, liftInRound}
 use Rattle.selection.proofs.Sums.{ofRound-le}
 use Rattle.selection.proofs.Held.{proper, somewhere, held-one}
 
 -- ---- the marks of a round
-
--- whether an initial selection is at place i
-abbrev isAt : Initial → ℕ → Bool
-isAt (here j) i = eqb j i
-isAt elsewhere i = false
-
--- one of two initial selections is at a place
-held-of : (x y : Initial) (i : ℕ) → isHeld (heldOf x y) i ≡ (isAt x i || isAt y i)
-held-of elsewhere elsewhere i = refl
-held-of (here a) elsewhere i = sym (or-false (eqb a i))
-held-of elsewhere (here b) i = refl
-held-of (here a) (here b) i = go (eqb a i)
-  where
-    go : (t : Bool) → cond t true (eqb b i) ≡ (t || eqb b i)
-    go true = refl
-    go false = refl
 
 -- whether a lift is held and of old round t
 abbrev holds : ℕ → Lift → Bool
@@ -88,21 +72,20 @@ both : (b c : Bool) → (b ≡ true → c ≡ true) → b ≡ (b && c)
 both true c h = sym (h refl)
 both false c h = refl
 
--- the marks of lifts of at most two old rounds, at most one in each
-among : (ls : List Lift) → ((t : ℕ) → heldCount t ls ≤ 1) → (i : ℕ) (ds : List ℕ) → leb 3 (length ds) ≡ false
-    → (getD ls i noLift .held ≡ true → List·Memᴰ (getD ls i noLift .old .round) ds) → getD ls i noLift .held ≡ isHeld (heldAmong (λ t. heldAt t ls) ds) i
-among ls h i [] few m = both (getD ls i noLift .held) false (λ e. absurd (List·Memᴰ·not-nil (m e))) ∙ and-false (getD ls i noLift .held)
-among ls h i (d ∷ []) few m =
-    both (getD ls i noLift .held) _ (λ e. eq-eqb _ d (List·Memᴰ·eq-of-singleton (m e)))
-    ∙ sym (held-of (heldAt d ls) elsewhere i ∙ or-false _ ∙ found d ls (h d) i)
-among ls h i (d ∷ e ∷ []) few m =
-    both (getD ls i noLift .held) _ (λ q. either (List·Memᴰ·cases-cons (m q)))
-    ∙ and-or-distrib-left (getD ls i noLift .held) _ _ ∙ sym (held-of (heldAt d ls) (heldAt e ls) i ∙ ap₂ _||_ (found d ls (h d) i) (found e ls (h e) i))
-  where
-    either : {t : ℕ} → (t ≡ d) ⊎ List·Memᴰ t (e ∷ []) → (eqb t d || eqb t e) ≡ true
-    either {t} (inl q) = rw (eq-eqb t d q)
-    either {t} (inr k) = rw (eq-eqb t e (List·Memᴰ·eq-of-singleton k)) (or-true (eqb t d))
-among ls h i (d ∷ e ∷ f ∷ ds) few m = absurd (omega (arith, leb-false 3 (length (d ∷ e ∷ f ∷ ds)) few))
+-- the held lifts of some old rounds are the marks of their lifts, where each has at most one
+marks-among : (ls : List Lift) → ((t : ℕ) → heldCount t ls ≤ 1) → (i : ℕ) (ds : List ℕ)
+    → isHeld (map (λ t. heldAt t ls) ds) i ≡ (getD ls i noLift .held && among (getD ls i noLift .old .round) ds)
+unfolding among
+marks-among ls h i [] = sym (and-false (getD ls i noLift .held))
+marks-among ls h i (d ∷ ds) =
+    let l = getD ls i noLift in
+    ap₂ _||_ (found d ls (h d) i ∙ ap (λ x. l .held && x) (eqb-comm (l .old .round) d)) (marks-among ls h i ds)
+    ∙ sym (and-or-distrib-left (l .held) (eqb d (l .old .round)) (among (l .old .round) ds))
+
+among-has : {t : ℕ} {ds : List ℕ} → List·Memᴰ t ds → among t ds ≡ true
+unfolding among
+among-has {t} (List·Memᴰ·head e) = rw (eq-eqb _ t (sym e))
+among-has {t} (List·Memᴰ·tail {x = d} m) = rw (among-has m) (or-true (eqb d t))
 
 -- what holds of the lifts of new round r
 pub ofRound-all : (P : Lift → Type 0) (r : ℕ) (ls : List Lift) → All (λ l. l .new .round ≡ r → P l) ls → All P (ofRound r ls)
@@ -118,11 +101,12 @@ sends-has t r (List·Memᴰ·head {xs = ls} e) c = rw (← e, c)
 sends-has t r (List·Memᴰ·tail {x = x} m) c = rw (sends-has t r m c) (or-true (brings t r x))
 
 -- where lifts fit, the marks are the held lifts that the round's choice starts from
-pub flagged : (ls : List Lift) → Fit ls → (r : ℕ) → 1 ≤ r → r ≤ mostRounds → (i : ℕ) → liftInRound r ls i .held ≡ isHeld (heldOfRound r ls) i
+pub flagged : {refuses : List Lift → List Refusal} (ls : List Lift) → FitBy refuses ls → (r : ℕ) (i : ℕ) → liftInRound r ls i .held ≡ isHeld (heldOfRound r ls) i
 unfolding liftInRound heldOfRound
-flagged ls f r a b i =
-    among (ofRound r ls) (λ t. le-trans (ofRound-le (λ l. l .old .round) (λ l. indicator (l .held)) t r ls) (held-one ls d (f .rounds .held) t)) i (donors r ls) (at-most-two ls r (f .rounds .donors r a b))
-    (all-getD Donor (λ e. absurd (false≢true e)) (ofRound r ls) (ofRound-all Donor r ls donor) i)
+flagged ls f r i =
+    both (getD (ofRound r ls) i noLift .held) _
+    (λ e. among-has (all-getD Donor (λ e. absurd (false≢true e)) (ofRound r ls) (ofRound-all Donor r ls donor) i e))
+    ∙ sym (marks-among (ofRound r ls) (λ t. le-trans (ofRound-le (λ l. l .old .round) (λ l. indicator (l .held)) t r ls) (held-one ls d (f .rounds .held) t)) i (donors r ls))
   where
     d : AllWellFormed 0 ls
     d = f .wellFormed .listed

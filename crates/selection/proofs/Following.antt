@@ -10,27 +10,23 @@ use Rattle.probability.specs.Plan.{Path, paths}
 use Rattle.draw.specs.Draw.{largest}
 use Rattle.draw.specs.Run.{finished, run}
 use Rattle.draw.proofs.Runs.{follows}
-use Rattle.round.specs.Choice.{Selection, outcome}
+use Rattle.round.specs.Choice.{Selection}
 use Rattle.sheet.specs.Sheet.{Lift, lifts}
 use Rattle.tally.specs.Rounds.{inUse}
 use Rattle.reply.specs.Reply.{replied}
 use Rattle.sheet.specs.Lift.{New}
-use Rattle.selection.specs.Choice.{heldOfRound, planOf, liftInRound, Choice, chosen, panel, reply, pair, writtenPairs, output}
+use Rattle.selection.specs.Choice.{Way, Choice, chosen, choiceOf, panel, reply, pairOf, writtenPairs, output}
 use Rattle.selection.specs.Fair.{draws}
 use Rattle.selection.proofs.Replies.{ran}
-use Rattle.selection.proofs.Steps.{made, Steps, none, some, steps}
-
--- the pair of a finished run of round r
-abbrev pub pairFor : ℕ → List Lift → Selection → List ℕ
-pairFor r ls s = pair r (liftInRound r ls (s .place) .number) (outcome (heldOfRound r ls) s)
+use Rattle.selection.proofs.Steps.{Steps, none, some, steps}
 
 -- the i-th pair comes from a run of round r's plan
-record Comes (ls : List Lift) (ws : List ℕ) (cs : List Choice) (i r : ℕ) : Type 0 where
+record Comes (way : Way) (ls : List Lift) (ws : List ℕ) (cs : List Choice) (i r : ℕ) : Type 0 where
   from : ℕ
   next : ℕ
   result : Selection
-  drew : run largest ws from (planOf r ls) ≡ finished (getD (map (λ c. c .values) cs) i []) result next
-  wrote : (out : List ℕ) → slice (2 * i) (2 * i + 2) (writtenPairs cs out) ≡ pairFor r ls result
+  drew : run largest ws from (way .plan r ls) ≡ finished (getD (map (λ c. c .values) cs) i []) result next
+  wrote : (out : List ℕ) → slice (2 * i) (2 * i + 2) (writtenPairs cs out) ≡ pairOf (choiceOf r ls (getD (map (λ c. c .values) cs) i []) result)
 
 -- the pairs behind the first one
 slice-behind : (c : Choice) (cs : List Choice) (out : List ℕ) (i : ℕ) → slice (2 * suc i) (2 * suc i + 2) (writtenPairs (c ∷ cs) out) ≡ slice (2 * i) (2 * i + 2) (writtenPairs cs (drop 2 out))
@@ -40,32 +36,32 @@ slice-behind c cs out i =
     let b : 2 * suc i + 2 ≡ suc (suc (2 * i + 2)) = omega arith in
     rw (b, a)
 
-come : (ls : List Lift) (ws : List ℕ) {from next : ℕ} {rs : List ℕ} {cs : List Choice} → Steps ls ws from rs cs next → (i : ℕ) → i < length rs
-    → Comes ls ws cs i (getD rs i 0)
+come : (way : Way) (ls : List Lift) (ws : List ℕ) {from next : ℕ} {rs : List ℕ} {cs : List Choice} → Steps way ls ws from rs cs next → (i : ℕ) → i < length rs
+    → Comes way ls ws cs i (getD rs i 0)
 unfolding writtenPairs
-come ls ws none i h = absurd (omega arith)
-come ls ws (some {from = from} {n = n} {s = s} q k) zero h = record { from = from; next = n; result = s; drew = q; wrote = λ out. refl }
-come ls ws (some {r = r} {cs = cs} {vs = vs} {s = s} q k) (suc i) h =
-    let c = come ls ws k i (omega arith) in
+come way ls ws none i h = absurd (omega arith)
+come way ls ws (some {from = from} {n = n} {s = s} q k) zero h = record { from = from; next = n; result = s; drew = q; wrote = λ out. refl }
+come way ls ws (some {r = r} {cs = cs} {vs = vs} {s = s} q k) (suc i) h =
+    let c = come way ls ws k i (omega arith) in
     record {
       from = c .from;
       next = c .next;
       result = c .result;
       drew = c .drew;
-      wrote = λ out. slice-behind (made r ls vs s) cs out i ∙ c .wrote (drop 2 out);
+      wrote = λ out. slice-behind (choiceOf r ls vs s) cs out i ∙ c .wrote (drop 2 out);
     }
 
 -- and so it has the lift and the outcome of the path that has its values
-pub carries : (sheet : List ℕ) {ls : List Lift} → lifts sheet ≡ ls → (ws : List ℕ) (start : ℕ) (out : List ℕ) {n k : ℕ}
-    → reply sheet ws start (length out) ≡ replied n k → (i : ℕ) → i < length (inUse New ls) → {r : ℕ} → getD (inUse New ls) i 0 ≡ r
-    → (p : Path Selection) → List·Memᴰ p (paths (planOf r ls)) → getD (draws (panel ls ws start)) i [] ≡ p .values
-    → slice (2 * i) (2 * i + 2) (output sheet ws start out) ≡ pairFor r ls (p .result)
+pub carries : (way : Way) (sheet : List ℕ) {ls : List Lift} → lifts sheet ≡ ls → (ws : List ℕ) (start : ℕ) (out : List ℕ) {n k : ℕ}
+    → reply way sheet ws start (length out) ≡ replied n k → (i : ℕ) → i < length (inUse New ls) → {r : ℕ} → getD (inUse New ls) i 0 ≡ r
+    → (p : Path Selection) → List·Memᴰ p (paths (way .plan r ls)) → getD (draws (panel way ls ws start)) i [] ≡ p .values
+    → slice (2 * i) (2 * i + 2) (output way sheet ws start out) ≡ pairOf (choiceOf r ls (p .values) (p .result))
 unfolding output
-carries sheet {ls} b ws start out e i h {r} a p d v =
-    let x = ran sheet ws start (length out) e in
-    let is : panel ls ws start ≡ chosen (x .choices) (x .next) = rw (← b) (x .is) in
-    let c : Comes ls ws (x .choices) i r = rw a at (come ls ws (steps ls ws start (inUse New ls) is) i h) in
+carries way sheet {ls} b ws start out e i h {r} a p d v =
+    let x = ran way sheet ws start (length out) e in
+    let is : panel way ls ws start ≡ chosen (x .choices) (x .next) = rw (← b) (x .is) in
+    let c : Comes way ls ws (x .choices) i r = rw a at (come way ls ws (steps way ls ws start (inUse New ls) is) i h) in
     let vs : getD (map (λ c. c .values) (x .choices)) i [] ≡ p .values = rw is at v in
-    let drew : run largest ws (c .from) (planOf r ls) ≡ finished (p .values) (c .result) (c .next) = rw (← vs) (c .drew) in
-    let same : p .result ≡ c .result = follows largest (planOf r ls) .result ws (c .from) (c .next) (c .result) p d drew in
+    let drew : run largest ws (c .from) (way .plan r ls) ≡ finished (p .values) (c .result) (c .next) = rw (← vs) (c .drew) in
+    let same : p .result ≡ c .result = follows largest (way .plan r ls) .result ws (c .from) (c .next) (c .result) p d drew in
     rw (e, x .is, same) (c .wrote out)

@@ -16,7 +16,8 @@ use Rattle.sheet.specs.Sheet.{mostRounds, longest, Lift, wordsThen, sheetOf, wo
 use Rattle.tally.specs.Rounds.{liftCount, inUse, heldCount}
 use Rattle.tally.specs.Verdict.{notOneHeld}
 use Rattle.sheet.specs.Law.{LiftWellFormed, AllWellFormed}
-use Rattle.tally.specs.Law.{Nowhere, Fit}
+use Rattle.tally.specs.Law.{Nowhere, FitBy}
+use Rattle.reply.specs.declared.Refusal.{Refusal}
 use Rattle.sheet.specs.Lift.{Old}
 use Rattle.tally.proofs.Ranges.{filter-count, filter-few}
 use Rattle.selection.specs.Choice.{noLift}
@@ -102,9 +103,9 @@ module _ (ls : List Lift) (d : AllWellFormed 0 ls) where
         ∙ zero-add _ ∙ sym (filter-count (λ t. ltb 0 (liftCount Old t ls)) 1 mostRounds)
 
 -- so a sheet that fits has three words for each lift, one for each old round, and the end word
-pub sheet-length : {ls : List Lift} → Fit ls → length (sheetOf ls) ≡ 3 * length ls + length (inUse Old ls) + 1
-sheet-length {ls} f = length-written ls (word endKind (length ls) ∷ []) ∙ ap (λ n. 3 * length ls + n + 1) (held-total ls (f .wellFormed .listed) (f .rounds .held))
+pub sheet-length : {refuses : List Lift → List Refusal} {ls : List Lift} → FitBy refuses ls → length (sheetOf ls) ≡ 3 * length ls + length (inUse Old ls) + 1
+sheet-length {ls = ls} f = length-written ls (word endKind (length ls) ∷ []) ∙ ap (λ n. 3 * length ls + n + 1) (held-total ls (f .wellFormed .listed) (f .rounds .held))
 
 -- and is not too long
-pub sheet-short : {ls : List Lift} → Fit ls → length (sheetOf ls) ≤ longest
-sheet-short {ls} f = omega (arith, sheet-length f, filter-few (λ t. ltb 0 (liftCount Old t ls)) 1 mostRounds, f .wellFormed .few)
+pub sheet-short : {refuses : List Lift → List Refusal} {ls : List Lift} → FitBy refuses ls → length (sheetOf ls) ≤ longest
+sheet-short {ls = ls} f = omega (arith, sheet-length f, filter-few (λ t. ltb 0 (liftCount Old t ls)) 1 mostRounds, f .wellFormed .few)

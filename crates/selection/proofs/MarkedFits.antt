@@ -2,21 +2,23 @@
 use Prim.Native.Nat.{ℕ, _+_, _≤_, _<_}
 use mathlib.Core.Path.{_≡_, refl, ap, ap₂, _∙_}
 use mathlib.Core.Bool.{Bool, true, false, cond, _&&_, not}
-use mathlib.Core.List.{List, [], _∷_, List·Memᴰ, List·Memᴰ·head, List·Memᴰ·tail}
+use mathlib.Core.List.{List, [], _∷_, map, List·Memᴰ, List·Memᴰ·head, List·Memᴰ·tail}
 use native.Mathlib.Omega.{arith}
-use lib.Dec.{eqb, ltb}
+use lib.Dec.{eqb, ltb, leb}
 use lib.ListN.{length}
 use borrow.Author.Tests.{eq-eqb}
 use Rattle.probability.specs.Sum.{totalBy, indicator}
 use Rattle.probability.proofs.Lists.{All}
 use Rattle.round.specs.Choice.{isHeld}
 use Rattle.sheet.specs.Sheet.{mostRounds, Lift, lifts, sheetOf}
-use Rattle.tally.specs.Rounds.{liftCount, inUse, donors, heldCount}
-use Rattle.tally.specs.Verdict.{fits, notOneHeld, oversize, zeroSum, tooManyDonors, verdict}
+use Rattle.tally.specs.Rounds.{liftCount, inUse, heldCount}
+use Rattle.tally.specs.Verdict.{fits, notOneHeld, oversize, zeroSum, crowded, nothingMore, verdictBy}
+use Rattle.reply.specs.declared.Refusal.{Refusal}
+use Rattle.reply.specs.declared.Refusal.the-variants.{TooManyDonors}
 use Rattle.sheet.specs.Law.{AllWellFormed, WellFormed}
-use Rattle.tally.specs.Law.{Nowhere, Fit}
+use Rattle.tally.specs.Law.{Nowhere, FitBy}
 use Rattle.sheet.specs.Lift.{Old, New}
-use Rattle.tally.proofs.Ranges.{filter-has, filter-once}
+use Rattle.tally.proofs.Ranges.{filter-ext, filter-has, filter-once}
 use Rattle.sheet.proofs.Trips.{written-theorem}
 use Rattle.tally.proofs.Verdicts.{decided, fits-sheet}
 use Rattle.selection.specs.Choice.{heldOfRound, liftInRound}
@@ -46,16 +48,17 @@ listed-marked m n (l ∷ ls) h (p, d) = (
 
 -- ---- they and their sheet fit
 
--- lifts that fit, but for their held marks
+-- lifts that fit up to 9, but for their held marks
 pub record Unmarked (ls : List Lift) : Type 0 where
   pub wellFormed : WellFormed ls
   pub old : Nowhere (oversize Old ls)
   pub new : Nowhere (oversize New ls)
   pub measured : Nowhere (zeroSum ls)
-  pub donors : Nowhere (tooManyDonors ls)
 
-unmarked : {ls : List Lift} → Fit ls → Unmarked ls
-unmarked f = record { wellFormed = f .wellFormed; old = f .rounds .old; new = f .rounds .new; measured = f .rounds .measured; donors = f .rounds .donors }
+-- marks don't change which rounds have too many donors
+pub crowded-marked : (m ls : List Lift) → crowded (marked m ls) ≡ crowded ls
+crowded-marked m ls =
+    ap (map TooManyDonors) (filter-ext 1 mostRounds (λ r _ _. ap₂ (λ n ds. ltb 0 n && leb 3 (length ds)) (named-marked m New r ls) (donors-marked m r ls)))
 
 module _ {ls : List Lift} (f : Unmarked ls) {m : List Lift} (chosen : Selected ls (inUse Old ls) m) where
   -- one lift is held in each old round in use
@@ -70,8 +73,8 @@ module _ {ls : List Lift} (f : Unmarked ls) {m : List Lift} (chosen : Selected l
       go false e = refl
 
   -- so marked the lifts fit
-  pub fit-marked : Fit (marked m ls)
-  fit-marked =
+  pub fit-marked : {refuses : List Lift → List Refusal} → refuses (marked m ls) ≡ [] → FitBy refuses (marked m ls)
+  fit-marked e =
       record {
         wellFormed = record {
           listed = listed-marked m 0 ls (measured ls (f .wellFormed .listed) chosen) (f .wellFormed .listed);
@@ -82,23 +85,24 @@ module _ {ls : List Lift} (f : Unmarked ls) {m : List Lift} (chosen : Selected l
           old = λ r l h. rw (sumOf-marked m Old r ls) (f .old r l h);
           new = λ r l h. rw (sumOf-marked m New r ls) (f .new r l h);
           measured = λ r l h. rw (named-marked m New r ls, sumOf-marked m New r ls) (f .measured r l h);
-          donors = λ r l h. rw (named-marked m New r ls, donors-marked m r ls) (f .donors r l h);
         };
+        last = e;
       }
 
-module _ (ls : List Lift) (f : Fit ls) (m : List Lift) (i : List·Memᴰ m (selections ls)) where
-  fit : Fit (marked m ls)
-  fit = fit-marked (unmarked f) (selected (inUse Old ls) ls m i)
+module _ {refuses : List Lift → List Refusal} (ls : List Lift) (f : FitBy refuses ls) (m : List Lift) (i : List·Memᴰ m (selections ls)) where
+  fit : {others : List Lift → List Refusal} → others (marked m ls) ≡ [] → FitBy others (marked m ls)
+  fit = fit-marked (record { wellFormed = f .wellFormed; old = f .rounds .old; new = f .rounds .new; measured = f .rounds .measured }) (selected (inUse Old ls) ls m i)
 
-  pub flags : (r : ℕ) → 1 ≤ r → r ≤ mostRounds → (i : ℕ) → liftInRound r (marked m ls) i .held ≡ isHeld (heldOfRound r (marked m ls)) i
-  flags = flagged (marked m ls) fit
+  pub flags : (r i : ℕ) → liftInRound r (marked m ls) i .held ≡ isHeld (heldOfRound r (marked m ls)) i
+  flags = flagged (marked m ls) (fit {others = nothingMore} refl)
 
   pub back : lifts (sheetOf (marked m ls)) ≡ marked m ls
-  back = written-theorem (marked m ls) (fit .wellFormed) .back
+  back = written-theorem (marked m ls) (fit {others = nothingMore} refl .wellFormed) .back
 
   -- and so does their sheet
-  pub marked-fits : verdict (sheetOf (marked m ls)) ≡ fits (length ls) (length (inUse New ls))
-  marked-fits =
-      decided (sheetOf (marked m ls)) .passes (fits-sheet fit (sheet-short fit))
+  pub marked-fits : refuses (marked m ls) ≡ [] → verdictBy refuses (sheetOf (marked m ls)) ≡ fits (length ls) (length (inUse New ls))
+  marked-fits e =
+      let g = fit {others = refuses} e in
+      decided refuses (sheetOf (marked m ls)) .passes (fits-sheet g (sheet-short g))
       ∙ ap (λ us. fits (length us) (length (inUse New us))) back
       ∙ ap₂ fits (length-marked m ls) (ap length (inUse-marked m New ls))

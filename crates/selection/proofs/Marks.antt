@@ -1,8 +1,8 @@
 -- An initial selection changes held marks alone: rounds, sums and donors stay.
 use Prim.Native.Nat.{ℕ, _+_}
-use mathlib.Core.Path.{_≡_, refl, ap, ap₂}
+use mathlib.Core.Path.{_≡_, refl, ap, ap₂, fun-ext}
 use mathlib.Core.Bool.{Bool, true, false, cond, _||_}
-use mathlib.Core.List.{List, [], _∷_, map-map}
+use mathlib.Core.List.{List, [], _∷_, map, map-map}
 use lib.Dec.{eqb, ltb}
 use lib.ListN.{length, length-map}
 use Rattle.probability.specs.Sum.{totalBy}
@@ -66,9 +66,4 @@ module _ (m : List Lift) where
 
   pub donorsOf-marked : (r : ℕ) (ls : List Lift) → donorsOf r (marked m ls) ≡ donorsOf r ls
   unfolding donorsOf
-  donorsOf-marked r ls = rw (donors-marked r ls) (same (donors r ls))
-    where
-      same : (ds : List ℕ) → withSums (λ t. sumOf Old t (marked m ls)) ds ≡ withSums (λ t. sumOf Old t ls) ds
-      same [] = refl
-      same (d ∷ []) = rw (sumOf-marked Old d ls)
-      same (d ∷ e ∷ ds) = rw (sumOf-marked Old d ls, sumOf-marked Old e ls)
+  donorsOf-marked r ls = rw (donors-marked r ls) (ap (λ T. withSums (map T (donors r ls))) (fun-ext (λ t. sumOf-marked Old t ls)))

@@ -1,91 +1,121 @@
--- What lifts that fit give of each of their new rounds: the sums of the round and of its donors, and where held lifts stand.
-use Prim.Native.Nat.{ℕ, suc, _+_, _-_, _≤_, _<_}
+-- What lifts that fit give of each of their new rounds: the sums of the round and of its donors, and where held lifts stand. By induction along the donors.
+use Prim.Native.Nat.{ℕ, suc, _≤_, _<_}
 use mathlib.Core.Path.{_≡_, refl, sym, ap, ap₂, _∙_}
 use mathlib.Core.Bool.{Bool, true, false, cond, _&&_, true≢false}
 use mathlib.Core.List.{List, [], _∷_, map}
 use native.Mathlib.Omega.{arith}
-use lib.Dec.{eqb}
+use lib.Dec.{eqb, ltb, leb}
 use lib.ListN.{length, length-map}
-use borrow.Author.Tests.{eqb-true, eqb-false, lt-ltb, ltb-false, leb-false}
-use Rattle.probability.proofs.Tests.{eqb-comm}
-use Rattle.round.specs.Round.{S, IsDonor, AreDonors, WellPosed as RoundFitting}
+use borrow.Author.Tests.{eqb-true, eqb-false, eq-eqb, ne-eqb, lt-ltb, ltb-true, ltb-false, leb-false}
 use Rattle.probability.specs.Initial.{Initial, here, elsewhere}
-use Rattle.round.specs.Share.{heldOf}
-use Rattle.round.specs.declared.Donors.the-variants.{One, Two}
-use Rattle.round.specs.Rows.{Stands, Bounded, SumsBounded}
+use Rattle.round.specs.Round.{S, IsDonor, wholeSums, AreDonors, WellPosed as RoundFitting}
+use Rattle.round.specs.Rows.{Inside, Stands, Bounded, SumsBounded}
 use Rattle.sheet.specs.Sheet.{mostRounds, largestSum, Lift}
 use Rattle.tally.specs.Law.{Fit}
 use Rattle.sheet.specs.Lift.{Old, New}
 use Rattle.tally.proofs.Sending.{at-most-two}
-use Rattle.tally.proofs.Ranges.{filter-head}
-use Rattle.tally.specs.Rounds.{liftCount, sumOf, sends, donors, ofRound, donorNumber, further, heldAt}
-use Rattle.selection.specs.Choice.{withSums, donorsOf, inRound, liftsOf, heldAmong, heldOfRound}
+use Rattle.tally.proofs.Verdicts.{few-donors}
+use Rattle.tally.proofs.Ranges.{Rising, filter-rise}
+use Rattle.tally.specs.Rounds.{liftCount, sumOf, sends, donors, ofRound, numberFrom, donorNumber, further, heldAt}
+use Rattle.selection.specs.Choice.{withSums, donorsOf, inRound, liftsOf, heldOfRound}
 use Rattle.selection.proofs.Sums.{S-sum, U-sum, ofRound-le, sends-some}
 
--- ---- donors
+-- ---- the numbers of donors
 
--- the first donor is numbered 1, and it alone
-pub number-first : (d : ℕ) (ds : List ℕ) (t : ℕ) → eqb (donorNumber (d ∷ ds) t) 1 ≡ eqb t d
-number-first d [] t = go (eqb d t) ∙ eqb-comm d t
+-- below k there is no number but 0
+number-below : (k : ℕ) (ds : List ℕ) (t j : ℕ) → 0 < j → j < k → eqb (numberFrom k ds t) j ≡ false
+number-below k [] t j p l = ne-eqb 0 j (omega arith)
+number-below k (d ∷ ds) t j p l = go (eqb d t) (number-below (suc k) ds t j p (omega arith))
   where
-    go : (x : Bool) → eqb (cond x 1 0) 1 ≡ x
-    go true = refl
-    go false = refl
-number-first d (e ∷ ds) t = go (eqb d t) (eqb e t) ∙ eqb-comm d t
-  where
-    go : (x y : Bool) → eqb (cond x 1 (cond y 2 0)) 1 ≡ x
-    go true y = refl
-    go false true = refl
-    go false false = refl
+    go : (x : Bool) → eqb (numberFrom (suc k) ds t) j ≡ false → eqb (cond x k (numberFrom (suc k) ds t)) j ≡ false
+    go true h = ne-eqb k j (omega arith)
+    go false h = h
 
--- and the second 2
-pub number-second : (d e : ℕ) (ds : List ℕ) → d < e → (t : ℕ) → eqb (donorNumber (d ∷ e ∷ ds) t) 2 ≡ eqb t e
-number-second d e ds h t = go (eqb d t) (eqb e t) refl refl ∙ eqb-comm e t
+-- the key of each of some old rounds is its own: k for the first, k + 1 for the next
+abbrev pub Keys : (ℕ → ℕ) → ℕ → List ℕ → Type 0
+Keys key k [] = Unit {0}
+Keys key k (d ∷ ds) = ((t : ℕ) → eqb (key t) k ≡ eqb t d) × Keys key (suc k) ds
+
+-- rounds that rise have their numbers as keys, and keys below k can be given to those before them
+keys-from : (P : ℕ → Type 0) (key : ℕ → ℕ) (k a : ℕ) (ds : List ℕ) → 0 < k → Rising P a ds → ((t : ℕ) → t < a → key t < k)
+    → ((t : ℕ) → a ≤ t → key t ≡ numberFrom k ds t) → Keys key k ds
+keys-from P key k a [] p s low high = tt
+keys-from P key k a (d ∷ ds) p s low high = (
+  λ t. own t (ltb t a) refl,
+  keys-from P key (suc k) (suc d) ds (omega arith) (s .2) (λ t l. less t l (ltb t a) refl)
+      (λ t l. high t (omega (arith, s .0)) ∙ ap (λ x. cond x k (numberFrom (suc k) ds t)) (ne-eqb d t (λ e. omega arith))),
+)
   where
-    go : (x y : Bool) → eqb d t ≡ x → eqb e t ≡ y → eqb (cond x 1 (cond y 2 0)) 2 ≡ y
-    go true true p q = absurd (omega (arith, eqb-true d t p, eqb-true e t q))
-    go true false p q = refl
-    go false true p q = refl
-    go false false p q = refl
+    own : (t : ℕ) (x : Bool) → ltb t a ≡ x → eqb (key t) k ≡ eqb t d
+    own t true e =
+        let l = ltb-true t a e in
+        ne-eqb (key t) k (λ z. omega (arith, low t l)) ∙ sym (ne-eqb t d (λ z. omega (arith, s .0)))
+    own t false e = rw (high t (ltb-false t a e)) (go (eqb d t) refl)
+      where
+        go : (x : Bool) → eqb d t ≡ x → eqb (cond x k (numberFrom (suc k) ds t)) k ≡ eqb t d
+        go true z = eq-eqb k k refl ∙ sym (eq-eqb t d (sym (eqb-true d t z)))
+        go false z = number-below (suc k) ds t k p (omega arith) ∙ sym (ne-eqb t d (λ y. eqb-false d t z (sym y)))
+
+    less : (t : ℕ) → t < suc d → (x : Bool) → ltb t a ≡ x → key t < suc k
+    less t l true e = omega (arith, low t (ltb-true t a e))
+    less t l false e = rw (high t (ltb-false t a e)) (go (eqb d t) refl)
+      where
+        unnumbered : (k b : ℕ) (es : List ℕ) → Rising P b es → t < b → numberFrom k es t ≡ 0
+        unnumbered k b [] r h = refl
+        unnumbered k b (c ∷ es) r h = rw (ne-eqb c t (λ z. omega (arith, r .0))) (unnumbered (suc k) (suc c) es (r .2) (omega (arith, r .0)))
+
+        go : (x : Bool) → eqb d t ≡ x → cond x k (numberFrom (suc k) ds t) < suc k
+        go true z = omega arith
+        go false z = rw (unnumbered (suc k) (suc d) ds (s .2) l) (omega arith)
 
 -- ---- held lifts
 
--- a held lift that is here stands at a place below n
-abbrev Sits : ℕ → Initial → Type 0
-Sits n (here i) = i < n
-Sits n elsewhere = Unit {0}
-
-sits : (t : ℕ) (us : List Lift) → Sits (length us) (heldAt t us)
+sits : (t : ℕ) (us : List Lift) → Inside (length us) (heldAt t us)
 unfolding heldAt
 sits t [] = tt
 sits t (u ∷ us) = go (u .held && eqb (u .old .round) t) (heldAt t us) (sits t us)
   where
-    go : (x : Bool) (y : Initial) → Sits (length us) y → Sits (suc (length us)) (cond x (here 0) (further y))
+    go : (x : Bool) (y : Initial) → Inside (length us) y → Inside (suc (length us)) (cond x (here 0) (further y))
     go true y k = omega arith
     go false (here i) k = omega arith
     go false elsewhere k = tt
 
--- what is known of the donors of a round: none, one, or two in rising order
-pub data Senders (r : ℕ) (ls : List Lift) : List ℕ → Type 0 where
-  none : Senders r ls []
-  one : {d : ℕ} → sends d r ls ≡ true → 1 ≤ d → d ≤ mostRounds → Senders r ls (d ∷ [])
-  two : {d e : ℕ} → sends d r ls ≡ true → sends e r ls ≡ true → 1 ≤ d → d < e → e ≤ mostRounds → Senders r ls (d ∷ e ∷ [])
+-- a donor is an old round that sends measure
+pub record Donor (r : ℕ) (ls : List Lift) (t : ℕ) : Type 0 where
+  pub sends : sends t r ls ≡ true
+  pub low : 1 ≤ t
+  pub high : t ≤ mostRounds
+
+-- the donors rise, and their numbers are their own
+pub donors-rise : (r : ℕ) (ls : List Lift) → Rising (Donor r ls) 1 (donors r ls)
+donors-rise r ls = filter-rise (Donor r ls) (λ t. sends t r ls) 1 mostRounds (λ t l h e. record { sends = e; low = l; high = omega arith })
+
+pub donor-keys : (r : ℕ) (ls : List Lift) → Keys (donorNumber (donors r ls)) 1 (donors r ls)
+donor-keys r ls =
+    keys-from (Donor r ls) (donorNumber (donors r ls)) 1 0 (donors r ls) (omega arith) (lower (donors r ls) (donors-rise r ls)) (λ t l. absurd (omega arith)) (λ t l. refl)
+  where
+    lower : (ds : List ℕ) → Rising (Donor r ls) 1 ds → Rising (Donor r ls) 0 ds
+    lower [] s = tt
+    lower (d ∷ ds) s = (omega arith, s .1, s .2)
+
+-- the whole old sum of an old round
+abbrev pub wholeOf : List Lift → ℕ → ℕ
+wholeOf ls t = sumOf Old t ls
+
+-- at most two sums are those of their donors
+whole-sums : (Ts : List ℕ) → leb 3 (length Ts) ≡ false → wholeSums (withSums Ts) ≡ Ts
+whole-sums [] h = refl
+whole-sums (T ∷ []) h = refl
+whole-sums (T₁ ∷ T₂ ∷ []) h = refl
+whole-sums (T₁ ∷ T₂ ∷ T₃ ∷ Ts) h = absurd (omega (arith, leb-false 3 (length (T₁ ∷ T₂ ∷ T₃ ∷ Ts)) h))
 
 module _ {ls : List Lift} (f : Fit ls) {r : ℕ} (low : 1 ≤ r) (high : r ≤ mostRounds) where
-  pub senders : Senders r ls (donors r ls)
-  senders = go (donors r ls) refl
-    where
-      p : ℕ → Bool
-      p t = sends t r ls
+  pub donors-few : length (donors r ls) ≤ 2
+  donors-few = omega (arith, leb-false 3 (length (donors r ls)) (at-most-two ls r (few-donors f r low high)))
 
-      go : (ds : List ℕ) → donors r ls ≡ ds → Senders r ls ds
-      go [] q = none
-      go (d ∷ []) q = let h = filter-head p 1 mostRounds d [] q in one (h .passes) (h .from) (omega (arith, h .upto))
-      go (d ∷ e ∷ []) q =
-          let h = filter-head p 1 mostRounds d (e ∷ []) q in
-          let k = filter-head p (suc d) (1 + mostRounds - suc d) e [] (sym (h .rest)) in
-          two (h .passes) (k .passes) (h .from) (k .from) (omega (arith, h .upto, k .upto))
-      go (d ∷ e ∷ c ∷ ds) q = absurd (omega (arith, leb-false 3 (length (donors r ls)) (at-most-two ls r (f .rounds .donors r low high)), ap length q))
+  pub donors-sums : wholeSums (donorsOf r ls) ≡ map (wholeOf ls) (donors r ls)
+  unfolding donorsOf
+  donors-sums = whole-sums (map (wholeOf ls) (donors r ls)) (rw (length-map (donors r ls) (wholeOf ls)) (at-most-two ls r (few-donors f r low high)))
 
   sum-new : sumOf New r ls ≤ largestSum
   sum-new = ltb-false largestSum (sumOf New r ls) (f .rounds .new r low high)
@@ -99,15 +129,13 @@ module _ {ls : List Lift} (f : Fit ls) {r : ℕ} (low : 1 ≤ r) (high : r ≤ m
       let e = U-sum number k d h (ofRound r ls) in
       record { some = rw e (sends-some d r ls s); part = rw e (ofRound-le (λ l. l .old .round) (λ l. l .old .measure) d r ls) }
 
-  donated : (ds : List ℕ) → Senders r ls ds → AreDonors (withSums (λ t. sumOf Old t ls) ds) (map (inRound (donorNumber ds)) (ofRound r ls))
-  donated [] none = tt
-  donated (d ∷ []) (one s l h) = sent (donorNumber (d ∷ [])) 1 d (number-first d []) s
-  donated (d ∷ c ∷ []) (two s t l m h) = (sent (donorNumber (d ∷ c ∷ [])) 1 d (number-first d (c ∷ [])) s, sent (donorNumber (d ∷ c ∷ [])) 2 c (number-second d c [] m) t)
+  donated : (key : ℕ → ℕ) (k a : ℕ) (ds : List ℕ) → Keys key k ds → Rising (Donor r ls) a ds → AreDonors k (map (wholeOf ls) ds) (map (inRound key) (ofRound r ls))
+  donated key k a [] q s = tt
+  donated key k a (d ∷ ds) q s = (sent key k d (q .0) (s .1 .sends), donated key (suc k) (suc d) ds (q .1) (s .2))
 
-  limited : (ds : List ℕ) → Senders r ls ds → SumsBounded (withSums (λ t. sumOf Old t ls) ds)
-  limited [] none = tt
-  limited (d ∷ []) (one s l h) = sum-old d l h
-  limited (d ∷ c ∷ []) (two s t l m h) = (sum-old d l (omega arith), sum-old c (omega arith) h)
+  limited : (a : ℕ) (ds : List ℕ) → Rising (Donor r ls) a ds → SumsBounded (map (wholeOf ls) ds)
+  limited a [] s = tt
+  limited a (d ∷ ds) s = (sum-old d (s .1 .low) (s .1 .high), limited (suc d) ds (s .2))
 
   -- the round's own sum
   pub S-round : S (liftsOf r ls) ≡ sumOf New r ls
@@ -122,30 +150,20 @@ module _ {ls : List Lift} (f : Fit ls) {r : ℕ} (low : 1 ≤ r) (high : r ≤ m
       go false e = omega (arith, eqb-false (sumOf New r ls) 0 e)
 
   pub round-fits : 0 < liftCount New r ls → RoundFitting (donorsOf r ls) (liftsOf r ls)
-  unfolding donorsOf liftsOf
-  round-fits n = record { positive = rw S-round (positive n); donate = donated (donors r ls) senders }
+  unfolding liftsOf
+  round-fits n =
+      record {
+        positive = rw S-round (positive n);
+        donate = rw donors-sums (donated (donorNumber (donors r ls)) 1 1 (donors r ls) (donor-keys r ls) (donors-rise r ls));
+      }
 
   pub round-bounded : Bounded (donorsOf r ls) (liftsOf r ls)
-  unfolding donorsOf
-  round-bounded = record { new = rw S-round sum-new; old = limited (donors r ls) senders }
+  round-bounded = record { new = rw S-round sum-new; old = rw donors-sums (limited 1 (donors r ls) (donors-rise r ls)) }
 
-  stands-among : (ds : List ℕ) → Senders r ls ds → (us : List Lift) → Stands (withSums (λ t. sumOf Old t ls) ds) (heldAmong (λ t. heldAt t us) ds) (length us)
-  stands-among [] none us = tt
-  stands-among (d ∷ []) (one s l h) us = go (heldAt d us) (sits d us)
-    where
-      go : (x : Initial) → Sits (length us) x → Stands (One (sumOf Old d ls)) (heldOf x elsewhere) (length us)
-      go (here i) k = k
-      go elsewhere k = tt
-  stands-among (d ∷ e ∷ []) (two s t l m h) us = go (heldAt d us) (heldAt e us) (sits d us) (sits e us)
-    where
-      go : (x y : Initial) → Sits (length us) x → Sits (length us) y → Stands (Two (sumOf Old d ls) (sumOf Old e ls)) (heldOf x y) (length us)
-      go (here i) (here j) k n = (k, n)
-      go (here i) elsewhere k n = k
-      go elsewhere (here j) k n = n
-      go elsewhere elsewhere k n = tt
+  stands-among : (ds : List ℕ) (us : List Lift) → Stands (map (wholeOf ls) ds) (map (λ t. heldAt t us) ds) (length us)
+  stands-among [] us = tt
+  stands-among (d ∷ ds) us = (sits d us, stands-among ds us)
 
-  pub round-stands : Stands (donorsOf r ls) (heldOfRound r ls) (length (liftsOf r ls))
-  unfolding donorsOf heldOfRound liftsOf
-  round-stands =
-      rw (length-map (ofRound r ls) (inRound (donorNumber (donors r ls))))
-      (stands-among (donors r ls) senders (ofRound r ls))
+  pub round-stands : Stands (wholeSums (donorsOf r ls)) (heldOfRound r ls) (length (liftsOf r ls))
+  unfolding heldOfRound liftsOf
+  round-stands = rw (donors-sums, length-map (ofRound r ls) (inRound (donorNumber (donors r ls)))) (stands-among (donors r ls) (ofRound r ls))

@@ -1,32 +1,29 @@
--- Of all initial selections a new round sees only the held lifts of its donors: the mean over all is that over these.
-use Prim.Native.Nat.{ℕ, _+_, _≤_, _<_}
-use mathlib.Core.Path.{_≡_, refl, sym, ap, _∙_}
+-- Of all initial selections a new round sees only the held lifts of its donors: the mean over all is that over these. By induction along the donors.
+use Prim.Native.Nat.{ℕ, suc, _+_, _≤_, _<_}
+use mathlib.Core.Path.{_≡_, refl, sym, ap, ap₂, _∙_}
 use mathlib.Core.Bool.{Bool, true, false, cond, _&&_, _||_, true≢false}
 use mathlib.Core.List.{List, [], _∷_, _++_, map}
 use native.Mathlib.Omega.{arith}
-use lib.Dec.{eqb, ltb, leb}
+use lib.Dec.{eqb, ltb}
 use lib.ListN.{length}
-use borrow.Author.Tests.{eqb-true, leb-false, lt-ltb, not-false}
+use borrow.Author.Tests.{eqb-true, lt-ltb, not-false}
 use Rattle.probability.specs.Sum.{totalBy, indicator}
+use Rattle.probability.specs.Initial.{Initial}
 use Rattle.probability.specs.Fraction.{Fraction, _//_, _≈_}
 use Rattle.probability.proofs.Fractions.{≈-refl, ≈-trans}
-use Rattle.probability.specs.Initial.{Initial, elsewhere}
-use Rattle.round.specs.Share.{heldOf, meanOverInitial, meanOverHeld}
-use Rattle.round.specs.declared.Held.{Held}
-use Rattle.round.specs.declared.Held.the-variants.{Neither}
-use Rattle.round.proofs.Initials.{initial-den}
+use Rattle.round.specs.Share.{meanOverInitial, meanOverDonors}
+use Rattle.reply.specs.declared.Refusal.{Refusal}
 use Rattle.sheet.specs.Sheet.{mostRounds, Lift}
 use Rattle.sheet.specs.Law.{AllWellFormed}
-use Rattle.tally.specs.Law.{Fit}
+use Rattle.tally.specs.Law.{FitBy}
 use Rattle.sheet.specs.Lift.{Old}
-use Rattle.tally.proofs.Sending.{at-most-two}
 use Rattle.tally.proofs.Ranges.{filter-none, Rising, filter-rise}
 use Rattle.tally.specs.Rounds.{liftCount, sumOf, heldCount, sends, donors, ofRound, donorNumber, heldAt}
-use Rattle.selection.specs.Choice.{withSums, donorsOf, inRound, liftsOf, heldAmong, heldOfRound}
+use Rattle.selection.specs.Choice.{inRound, liftsOf, heldOfRound}
 use Rattle.selection.specs.Initial.{marked, initialWeight, meanOverSelections}
 use Rattle.selection.proofs.Marks.{sends-marked, ofRound-marked}
-use Rattle.selection.proofs.RoundsFit.{number-first, number-second}
-use Rattle.selection.proofs.Means.{nth, mean, mean-≈, mean-den, means, Unseen, reduced}
+use Rattle.selection.proofs.RoundsFit.{Keys, donor-keys, wholeOf}
+use Rattle.selection.proofs.Means.{nth, mean-≈, mean-den, means, Unseen, reduced}
 use Rattle.selection.proofs.Standing.{numbered-once, heldAt-drop, stands, sorted}
 
 -- ---- the rounds of a sheet
@@ -56,58 +53,86 @@ sends-named t r (l ∷ ls) h = go (eqb (l .old .round) t) h (sends-named t r ls)
 -- ---- the donors alone
 
 -- a donor, of a sum above 0
-abbrev Donor : ℕ → List Lift → ℕ → Type 0
-Donor r ls d = (sends d r ls ≡ true) × (0 < sumOf Old d ls)
+abbrev Gives : ℕ → List Lift → ℕ → Type 0
+Gives r ls d = (sends d r ls ≡ true) × (0 < sumOf Old d ls)
 
-module _ (n : ℕ) (ls : List Lift) (l : AllWellFormed n ls) (r : ℕ) (f : Held → Fraction) (u : (h : Held) → 0 < f h .den) where
+module _ (n : ℕ) (ls : List Lift) (l : AllWellFormed n ls) (r : ℕ) where
+  abbrev us : List Lift
+  us = ofRound r ls
+
+  -- where the held lifts of some old rounds are, if the lifts of m are held
+  abbrev heldBy : List ℕ → List Lift → List Initial
+  heldBy ds m = map (λ t. heldAt t (marked m us)) ds
+
+  -- m has one lift of each of some old rounds
+  Names : List ℕ → List Lift → Type 0
+  Names [] [] = Unit {0}
+  Names [] (x ∷ m) = ⊥
+  Names (d ∷ ds) [] = ⊥
+  Names (d ∷ ds) (x ∷ m) = ((i : ℕ) × ((i < length ls) × ((nth ls i ≡ x) × (x .old .round ≡ d)))) × Names ds m
+
   -- a lift of another old round than d can be left out
-  other : (i : ℕ) → i < length ls → (d : ℕ) → (nth ls i .old .round ≡ d → ⊥) → (k m : List Lift)
-      → heldAt d (marked (k ++ nth ls i ∷ m) (ofRound r ls)) ≡ heldAt d (marked (k ++ m) (ofRound r ls))
+  other : (i : ℕ) → i < length ls → (d : ℕ) → (nth ls i .old .round ≡ d → ⊥) → (k m : List Lift) → heldAt d (marked (k ++ nth ls i ∷ m) us) ≡ heldAt d (marked (k ++ m) us)
   other i b d h k m = heldAt-drop d r k m (nth ls i) ls (λ j c e z. h (ap (λ y. y .old .round) (numbered-once n ls l i j b c e) ∙ z))
 
-  -- the held lifts of the donors don't depend on the other old rounds
-  donors-seen : (a : ℕ) (ds : List ℕ) → Rising (Donor r ls) a ds → Unseen (λ t. sends t r ls) ls (λ m. f (heldAmong (λ t. heldAt t (marked m (ofRound r ls))) ds))
-  donors-seen a ds s k m i b e = ap f (go ds s)
-    where
-      without : (d : ℕ) → sends d r ls ≡ true → heldAt d (marked (k ++ nth ls i ∷ m) (ofRound r ls)) ≡ heldAt d (marked (k ++ m) (ofRound r ls))
-      without d h = other i b d (λ z. true≢false (sym h ∙ ap (λ t. sends t r ls) (sym z) ∙ e)) k m
+  -- so can one that is of none of some old rounds
+  without : (P : ℕ → Type 0) (i : ℕ) → i < length ls → ((d : ℕ) → P d → nth ls i .old .round ≡ d → ⊥) → (k m : List Lift) (a : ℕ) (ds : List ℕ) → Rising P a ds
+      → heldBy ds (k ++ nth ls i ∷ m) ≡ heldBy ds (k ++ m)
+  without P i b h k m a [] s = refl
+  without P i b h k m a (d ∷ ds) s = ap₂ _∷_ (other i b d (h d (s .1)) k m) (without P i b h k m (suc d) ds (s .2))
 
-      go : (ds : List ℕ) → Rising (Donor r ls) a ds → heldAmong (λ t. heldAt t (marked (k ++ nth ls i ∷ m) (ofRound r ls))) ds ≡ heldAmong (λ t. heldAt t (marked (k ++ m) (ofRound r ls))) ds
-      go [] s = refl
-      go (d ∷ []) s = rw (without d (s .1 .0))
-      go (d ∷ e ∷ ds) s = rw (without d (s .1 .0), without e (s .2 .1 .0))
+  -- and so can the lifts of later old rounds, for the first
+  alone : (P : ℕ → Type 0) (d : ℕ) (x : Lift) (a : ℕ) (ds : List ℕ) (m : List Lift) → d < a → Rising P a ds → Names ds m → heldAt d (marked (x ∷ m) us) ≡ stands d x us
+  unfolding Names
+  alone P d x a [] [] h s w = refl
+  alone P d x a [] (y ∷ m) h s w = absurd w
+  alone P d x a (e ∷ ds) [] h s w = absurd w
+  alone P d x a (e ∷ ds) (y ∷ m) h s w =
+      let i = w .0 .0 in let z = w .0 .1 .1 .0 in
+      ap (λ t. heldAt d (marked (x ∷ t ∷ m) us)) (sym z)
+      ∙ other i (w .0 .1 .0) d (λ q. omega (arith, s .0, ap (λ t. t .old .round) z, w .0 .1 .1 .1)) (x ∷ []) m
+      ∙ alone P d x (suc e) ds m (omega (arith, s .0)) (s .2) (w .1)
 
-  -- the mean over at most two donors
-  donors-mean : (a : ℕ) (ds : List ℕ) → Rising (Donor r ls) a ds → leb 3 (length ds) ≡ false
-      → means ds ls (λ m. f (heldAmong (λ t. heldAt t (marked m (ofRound r ls))) ds)) ≈ meanOverHeld (withSums (λ t. sumOf Old t ls) ds) (map (inRound (donorNumber ds)) (ofRound r ls)) f
-  unfolding means meanOverHeld meanOverInitial
-  donors-mean a [] s c = ≈-refl (u Neither)
-  donors-mean a (d ∷ []) s c = sorted d r 1 (donorNumber (d ∷ [])) (number-first d []) (sumOf Old d ls) (s .1 .1) n ls l (λ x. f (heldOf x elsewhere)) (λ x. u (heldOf x elsewhere))
-  donors-mean a (d ∷ e ∷ []) s c =
-      let T₁ = sumOf Old d ls in
-      let T₂ = sumOf Old e ls in
-      let p₁ : 0 < T₁ = s .1 .1 in
-      let p₂ : 0 < T₂ = s .2 .1 .1 in
-      let key : ℕ → ℕ = donorNumber (d ∷ e ∷ []) in
-      let us : List Lift = ofRound r ls in
-      let inner : Initial → Fraction = λ x. meanOverInitial 2 T₂ (map (inRound key) us) (λ y. f (heldOf x y)) in
-      let w : (x : Initial) → 0 < inner x .den = λ x. initial-den 2 T₂ (map (inRound key) us) (λ y. f (heldOf x y)) p₂ (λ y. u (heldOf x y)) in
-      let both : Lift → Lift → Fraction = λ x y. f (heldAmong (λ t. heldAt t (marked (x ∷ y ∷ []) us)) (d ∷ e ∷ [])) in
-      let apart : (i : ℕ) → i < length ls → nth ls i .old .round ≡ d → (j : ℕ) → j < length ls → nth ls j .old .round ≡ e
-      → both (nth ls i) (nth ls j) ≈ f (heldOf (stands d (nth ls i) us) (stands e (nth ls j) us))
-      = λ i b v j c z.
-      rw (other j c d (λ y. omega (arith, s .2 .0)) (nth ls i ∷ []) [], other i b e (λ y. omega (arith, s .2 .0)) [] (nth ls j ∷ [])) (≈-refl (u _)) in
+  means-den : (a : ℕ) (ds : List ℕ) → Rising (Gives r ls) a ds → (F : List Lift → Fraction) → ((m : List Lift) → 0 < F m .den) → 0 < means ds ls F .den
+  unfolding means
+  means-den a [] s F u = u []
+  means-den a (d ∷ ds) s F u = mean-den d (sumOf Old d ls) (s .1 .1) ls (λ x. means ds ls (λ m. F (x ∷ m))) (λ x. means-den (suc d) ds (s .2) (λ m. F (x ∷ m)) (λ m. u (x ∷ m)))
+
+  -- means over selections that have one lift of each of these old rounds
+  means-≈ : (a : ℕ) (ds : List ℕ) → Rising (Gives r ls) a ds → (F H : List Lift → Fraction) → ((m : List Lift) → 0 < F m .den) → ((m : List Lift) → 0 < H m .den)
+      → ((m : List Lift) → Names ds m → F m ≈ H m) → means ds ls F ≈ means ds ls H
+  unfolding means Names
+  means-≈ a [] s F H u v h = h [] tt
+  means-≈ a (d ∷ ds) s F H u v h =
+      mean-≈ d (sumOf Old d ls) (s .1 .1) ls (λ x. means ds ls (λ m. F (x ∷ m))) (λ x. means ds ls (λ m. H (x ∷ m)))
+      (λ x. means-den (suc d) ds (s .2) _ (λ m. u (x ∷ m))) (λ x. means-den (suc d) ds (s .2) _ (λ m. v (x ∷ m)))
+      (λ i b e. means-≈ (suc d) ds (s .2) _ _ (λ m. u (nth ls i ∷ m)) (λ m. v (nth ls i ∷ m)) (λ m w. h (nth ls i ∷ m) ((i, (b, (refl, e))), w)))
+
+  -- the mean over the lifts of the donors is that over where their held lifts are
+  donors-mean : (key : ℕ → ℕ) (k a : ℕ) (ds : List ℕ) → Keys key k ds → Rising (Gives r ls) a ds → (f : List Initial → Fraction) → ((xs : List Initial) → 0 < f xs .den)
+      → means ds ls (λ m. f (heldBy ds m)) ≈ meanOverDonors k (map (wholeOf ls) ds) (map (inRound key) us) f
+  unfolding means meanOverDonors meanOverInitial
+  donors-mean key k a [] q s f u = ≈-refl (u [])
+  donors-mean key k a (d ∷ ds) q s f u =
+      let G : Initial → Fraction = λ x. meanOverDonors (suc k) (map (wholeOf ls) ds) (map (inRound key) us) (λ xs. f (x ∷ xs)) in
+      let rest : (x : Initial) → means ds ls (λ m. f (x ∷ heldBy ds m)) ≈ G x = λ x. donors-mean key (suc k) (suc d) ds (q .1) (s .2) (λ xs. f (x ∷ xs)) (λ xs. u (x ∷ xs)) in
+      let later : (i : ℕ) → nth ls i .old .round ≡ d → (e : ℕ) → (suc d ≤ e) → nth ls i .old .round ≡ e → ⊥ = λ i z e g y. omega arith in
+      let step : (i : ℕ) → i < length ls → nth ls i .old .round ≡ d → means ds ls (λ m. f (heldBy (d ∷ ds) (nth ls i ∷ m))) ≈ G (stands d (nth ls i) us)
+      = λ i b e. ≈-trans
+      (means-≈ (suc d) ds (s .2) (λ m. f (heldBy (d ∷ ds) (nth ls i ∷ m))) (λ m. f (stands d (nth ls i) us ∷ heldBy ds m)) (λ m. u _) (λ m. u _)
+      (λ m w. rw (alone (Gives r ls) d (nth ls i) (suc d) ds m (omega arith) (s .2) w, without (λ e. suc d ≤ e) i b (later i e) [] m (suc d) ds (rises (suc d) ds (omega arith) (s .2))) (≈-refl (u _))))
+      (rest (stands d (nth ls i) us)) in
       ≈-trans
-      (mean-≈ d T₁ p₁ ls (λ x. mean e T₂ ls (both x)) (λ x. inner (stands d x us)) (λ x. mean-den e T₂ p₂ ls (both x) (λ y. u _)) (λ x. w (stands d x us))
-      (λ i b v.
-      let x = stands d (nth ls i) us in
-      ≈-trans (mean-≈ e T₂ p₂ ls (both (nth ls i)) (λ y. f (heldOf x (stands e y us))) (λ y. u _) (λ y. u (heldOf x (stands e y us))) (apart i b v))
-      (sorted e r 2 key (number-second d e [] (s .2 .0)) T₂ p₂ n ls l (λ y. f (heldOf x y)) (λ y. u (heldOf x y)))))
-      (sorted d r 1 key (number-first d (e ∷ [])) T₁ p₁ n ls l inner w)
-  donors-mean a (d ∷ e ∷ g ∷ ds) s c = absurd (omega (arith, leb-false 3 (length (d ∷ e ∷ g ∷ ds)) c))
+      (mean-≈ d (sumOf Old d ls) (s .1 .1) ls (λ x. means ds ls (λ m. f (heldBy (d ∷ ds) (x ∷ m)))) (λ x. G (stands d x us))
+      (λ x. means-den (suc d) ds (s .2) _ (λ m. u _)) (λ x. rest (stands d x us) .right) step)
+      (sorted d r k key (q .0) (sumOf Old d ls) (s .1 .1) n ls l G (λ x. rest x .right))
+    where
+      rises : (b : ℕ) (es : List ℕ) → suc d ≤ b → Rising (Gives r ls) b es → Rising (λ e. suc d ≤ e) b es
+      rises b [] h t = tt
+      rises b (e ∷ es) h t = (t .0, omega (arith, t .0), rises (suc e) es (omega (arith, t .0)) (t .2))
 
 -- an old round of lifts that fit has a sum above 0
-measured : (ls : List Lift) → Fit ls → (t : ℕ) → 1 ≤ t → t < 1 + mostRounds → ltb 0 (liftCount Old t ls) ≡ true → 0 < sumOf Old t ls
+measured : {refuses : List Lift → List Refusal} (ls : List Lift) → FitBy refuses ls → (t : ℕ) → 1 ≤ t → t < 1 + mostRounds → ltb 0 (liftCount Old t ls) ≡ true → 0 < sumOf Old t ls
 measured ls f t a b e =
     let h : heldCount t ls ≡ 1 = eqb-true (heldCount t ls) 1 (not-false _ (rw e at (f .rounds .held t a (omega arith)))) in
     omega (arith, held-measured 0 ls (f .wellFormed .listed) t)
@@ -115,22 +140,23 @@ measured ls f t a b e =
 -- ---- what is shown
 
 -- the mean over all initial selections of what looks only at the held lifts of a round is that over its donors' alone
-pub transfer : (ls : List Lift) → Fit ls → (r : ℕ) → 1 ≤ r → r ≤ mostRounds → (F : Held → Fraction) → ((h : Held) → 0 < F h .den)
-    → meanOverSelections ls (λ ms. F (heldOfRound r ms)) ≈ meanOverHeld (donorsOf r ls) (liftsOf r ls) F
-unfolding meanOverSelections initialWeight heldOfRound donorsOf liftsOf
-transfer ls f r a b F u =
+pub transfer : {refuses : List Lift → List Refusal} (ls : List Lift) → FitBy refuses ls → (r : ℕ) (F : List Initial → Fraction) → ((xs : List Initial) → 0 < F xs .den)
+    → meanOverSelections ls (λ ms. F (heldOfRound r ms)) ≈ meanOverDonors 1 (map (wholeOf ls) (donors r ls)) (liftsOf r ls) F
+unfolding meanOverSelections initialWeight heldOfRound liftsOf
+transfer ls f r F u =
     let l = f .wellFormed .listed in
     let h : (t : ℕ) → sends t r ls ≡ true → ltb 0 (liftCount Old t ls) ≡ true = λ t e. lt-ltb 0 (liftCount Old t ls) (sends-named t r ls e) in
     let ds = donors r ls in
-    let s = filter-rise (Donor r ls) (λ t. sends t r ls) 1 mostRounds (λ t a b e. (e, measured ls f t a b (h t e))) in
-    let g : List Lift → Fraction = λ m. F (heldAmong (λ t. heldAt t (marked m (ofRound r ls))) ds) in
+    let s = filter-rise (Gives r ls) (λ t. sends t r ls) 1 mostRounds (λ t a b e. (e, measured ls f t a b (h t e))) in
+    let seen : Unseen (λ t. sends t r ls) ls (λ m. F (heldBy 0 ls l r ds m))
+    = λ k m i b e. ap F (without 0 ls l r (Gives r ls) i b (λ d g z. true≢false (sym (g .0) ∙ ap (λ t. sends t r ls) (sym z) ∙ e)) k m 1 ds s) in
     simp (sends-marked, ofRound-marked)
     (≈-trans
-    (reduced ls (λ t. ltb 0 (liftCount Old t ls)) (λ t. sends t r ls) h 1 mostRounds (measured ls f) g (λ m. u _) (donors-seen 0 ls l r F u 1 ds s))
-    (donors-mean 0 ls l r F u 1 ds s (at-most-two ls r (f .rounds .donors r a b))))
+    (reduced ls (λ t. ltb 0 (liftCount Old t ls)) (λ t. sends t r ls) h 1 mostRounds (measured ls f) (λ m. F (heldBy 0 ls l r ds m)) (λ m. u _) seen)
+    (donors-mean 0 ls l r (donorNumber ds) 1 1 ds (donor-keys r ls) s F u))
 
 -- all initial selections weigh 1 together
-pub whole : (ls : List Lift) → Fit ls → meanOverSelections ls (λ _. 1 // 1) ≈ 1 // 1
+pub whole : {refuses : List Lift → List Refusal} (ls : List Lift) → FitBy refuses ls → meanOverSelections ls (λ _. 1 // 1) ≈ 1 // 1
 unfolding meanOverSelections initialWeight means
 whole ls f =
     let none : (t : ℕ) → false ≡ true → ltb 0 (liftCount Old t ls) ≡ true = λ t e. absurd (true≢false (sym e)) in

@@ -1,5 +1,5 @@
--- The whole choice: each new round of a sheet by "One round" of document 01, "in rising order, each reading on where the one before
--- stopped".
+-- The whole choice, by any way of choosing in a round; the fourth procedure is "One round" of document 01 for each new round, "in rising
+-- order, each reading on where the one before stopped".
 use Prim.Native.Nat.{ℕ, _+_, _*_, _-_, _^_}
 use mathlib.Core.Bool.{cond, false}
 use mathlib.Core.List.{List, [], _∷_, _++_, map}
@@ -9,31 +9,29 @@ use Rattle.probability.specs.Plan.{Plan}
 use Rattle.draw.specs.Draw.{largest}
 use Rattle.draw.specs.Run.{Run, finished, short as ended, run}
 use Rattle.round.specs.Rows.{liftOfMeasures}
-use Rattle.round.specs.Choice.{Selection, plan, outcome}
-use Rattle.probability.specs.Initial.{Initial, elsewhere}
-use Rattle.round.specs.Share.{heldOf}
+use Rattle.round.specs.Choice.{Selection, Update, keyfitz, planBy, outcome}
+use Rattle.probability.specs.Initial.{Initial}
 use Rattle.round.specs.declared.Donors.{Donors}
 use Rattle.round.specs.declared.Donors.the-variants.{None, One, Two}
-use Rattle.round.specs.declared.Held.{Held}
-use Rattle.round.specs.declared.Held.the-variants.{Neither}
 use Rattle.round.specs.declared.Lift.{Lift as RoundLift}
 use Rattle.sheet.specs.Sheet.{Lift, lifts, word}
 use Rattle.reply.specs.Reply.{numbered, Reply, replied, ofRefusal, unlessRefused}
 use Rattle.sheet.specs.Lift.{placeAt, Old, New}
 use Rattle.tally.specs.Rounds.{inUse, sumOf, donors, donorNumber, ofRound, heldAt}
-use Rattle.tally.specs.Verdict.{verdict, ofVerdict}
+use Rattle.tally.specs.Verdict.{crowded, verdictBy, ofVerdict}
+use Rattle.reply.specs.declared.Refusal.{Refusal}
 
 -- ---- one round of a sheet
 
--- donors with their whole old sums: "T is the donor's whole old sum, lifts gone elsewhere included."
-abbrev pub withSums : (ℕ → ℕ) → List ℕ → Donors
-withSums T [] = None
-withSums T (d ∷ []) = One (T d)
-withSums T (d ∷ e ∷ ds) = Two (T d) (T e)
+-- donors by their whole old sums, of which there are at most two
+abbrev pub withSums : List ℕ → Donors
+withSums [] = None
+withSums (T ∷ []) = One T
+withSums (T₁ ∷ T₂ ∷ Ts) = Two T₁ T₂
 
--- the donors of new round r
+-- the donors of new round r: "T is the donor's whole old sum, lifts gone elsewhere included."
 unfoldable pub donorsOf : ℕ → List Lift → Donors
-donorsOf r ls = withSums (λ t. sumOf Old t ls) (donors r ls)
+donorsOf r ls = withSums (map (λ t. sumOf Old t ls) (donors r ls))
 
 -- a lift as its new round has it: its old and new measures, and the number of its donor, by a numbering of old rounds
 abbrev pub inRound : (ℕ → ℕ) → Lift → RoundLift
@@ -43,19 +41,14 @@ inRound number l = liftOfMeasures (l .old .measure) (number (l .old .round)) (pl
 unfoldable pub liftsOf : ℕ → List Lift → List RoundLift
 liftsOf r ls = map (inRound (donorNumber (donors r ls))) (ofRound r ls)
 
--- the held lifts of the donors, from where each donor's held lift stands
-abbrev pub heldAmong : (ℕ → Initial) → List ℕ → Held
-heldAmong place [] = Neither
-heldAmong place (d ∷ []) = heldOf (place d) elsewhere
-heldAmong place (d ∷ e ∷ ds) = heldOf (place d) (place e)
+-- where the held lifts of the donors of new round r are, in the order of the donors' numbers
+unfoldable pub heldOfRound : ℕ → List Lift → List Initial
+heldOfRound r ls = map (λ t. heldAt t (ofRound r ls)) (donors r ls)
 
--- the held lifts in new round r
-unfoldable pub heldOfRound : ℕ → List Lift → Held
-heldOfRound r ls = heldAmong (λ t. heldAt t (ofRound r ls)) (donors r ls)
-
--- the choice of new round r: "What it chooses depends only on its own lifts, its donors' sums and held lifts, and the chance words"
-unfoldable pub planOf : ℕ → List Lift → Plan Selection
-planOf r ls = plan (donorsOf r ls) (liftsOf r ls) (heldOfRound r ls)
+-- the choice of new round r by an update: "What it chooses depends only on its own lifts, its donors' sums and held lifts, and the
+-- chance words"
+unfoldable pub planOf : Update → ℕ → List Lift → Plan Selection
+planOf update r ls = planBy update (donorsOf r ls) (liftsOf r ls) (heldOfRound r ls)
 
 -- stands where there is no lift
 abbrev pub noLift : Lift
@@ -64,6 +57,21 @@ noLift = record { number = 0; old = record { round = 0; measure = 0 }; new = rec
 -- the lift at a place of new round r
 unfoldable pub liftInRound : ℕ → List Lift → ℕ → Lift
 liftInRound r ls i = getD (ofRound r ls) i noLift
+
+-- ---- a way of choosing
+
+-- what is refused of a sheet's lifts behind 9, and the plan of each new round, from its number and the lifts
+pub record Way : Type 0 where
+  pub refuses : List Lift → List Refusal
+  pub plan : ℕ → List Lift → Plan Selection
+
+-- the way by an update of the preliminary lift; 10 is refused behind 9
+abbrev pub byUpdate : Update → Way
+byUpdate update = record { refuses = crowded; plan = planOf update }
+
+-- the fourth procedure of document 002, with Keyfitz's replacement by growth
+abbrev pub fourth : Way
+fourth = byUpdate keyfitz
 
 -- ---- all rounds
 
@@ -84,19 +92,23 @@ abbrev pub preceded : Choice → Panel → Panel
 preceded c (chosen cs next) = chosen (c ∷ cs) next
 preceded c (short r) = short r
 
+-- the choice of a lift of new round r: the outcome goes by the lift's own mark
+abbrev pub choiceOf : ℕ → List Lift → List ℕ → Selection → Choice
+choiceOf r ls vs s =
+    let l = liftInRound r ls (s .place) in record { round = r; number = l .number; outcome = outcome (l .held) (s .dropped); values = vs }
+
 -- after the run of a round, the panel of the rounds that follow
 abbrev pub andThen : ℕ → List Lift → Run Selection → (ℕ → Panel) → Panel
-andThen r ls (finished vs s next) k =
-    preceded (record { round = r; number = liftInRound r ls (s .place) .number; outcome = outcome (heldOfRound r ls) s; values = vs }) (k next)
+andThen r ls (finished vs s next) k = preceded (choiceOf r ls vs s) (k next)
 andThen r ls ended k = short r
 
 -- "New rounds that some lift names are done in rising order, each reading on where the one before stopped."
-unfoldable pub panelFrom : List Lift → List ℕ → ℕ → List ℕ → Panel
-panelFrom ls ws from [] = chosen [] from
-panelFrom ls ws from (r ∷ rs) = andThen r ls (run largest ws from (planOf r ls)) (λ next. panelFrom ls ws next rs)
+unfoldable pub panelFrom : Way → List Lift → List ℕ → ℕ → List ℕ → Panel
+panelFrom way ls ws from [] = chosen [] from
+panelFrom way ls ws from (r ∷ rs) = andThen r ls (run largest ws from (way .plan r ls)) (λ next. panelFrom way ls ws next rs)
 
-abbrev pub panel : List Lift → List ℕ → ℕ → Panel
-panel ls ws start = panelFrom ls ws start (inUse New ls)
+abbrev pub panel : Way → List Lift → List ℕ → ℕ → Panel
+panel way ls ws start = panelFrom way ls ws start (inUse New ls)
 
 -- a table with a value of each choice at the place of its round
 unfoldable pub byRound : (Choice → ℕ) → List Choice → List ℕ → List ℕ
@@ -116,12 +128,12 @@ abbrev pub unlessLacking : (rounds words start room : ℕ) → Reply → Reply
 unlessLacking rounds words start room otherwise =
     cond (ltb words start) (ofRefusal (numbered 11 start)) (cond (ltb room (2 * rounds)) (ofRefusal (numbered 12 (2 * rounds))) otherwise)
 
-abbrev pub ofLent : List Lift → ℕ → List ℕ → ℕ → ℕ → Reply
-ofLent ls rounds ws start room = unlessLacking rounds (length ws) start room (ofPanel start (panel ls ws start))
+abbrev pub ofLent : Way → List Lift → ℕ → List ℕ → ℕ → ℕ → Reply
+ofLent way ls rounds ws start room = unlessLacking rounds (length ws) start room (ofPanel start (panel way ls ws start))
 
 -- the reply to a sheet, random words, a start position and an output of `room` words
-unfoldable pub reply : List ℕ → List ℕ → ℕ → ℕ → Reply
-reply sheet ws start room = ofVerdict (verdict sheet) (λ rounds. ofLent (lifts sheet) rounds ws start room)
+unfoldable pub reply : Way → List ℕ → List ℕ → ℕ → ℕ → Reply
+reply way sheet ws start room = ofVerdict (verdictBy (way .refuses) sheet) (λ rounds. ofLent way (lifts sheet) rounds ws start room)
 
 -- "kind 5 (upper 7 bits round, lower 21 outcome)"
 abbrev pub roundWord : ℕ → ℕ → ℕ
@@ -148,5 +160,5 @@ writtenPanel (chosen cs next) out = writtenPairs cs out
 writtenPanel (short r) out = out
 
 -- the output after the call
-unfoldable pub output : List ℕ → List ℕ → ℕ → List ℕ → List ℕ
-output sheet ws start out = unlessRefused (reply sheet ws start (length out)) out (writtenPanel (panel (lifts sheet) ws start) out)
+unfoldable pub output : Way → List ℕ → List ℕ → ℕ → List ℕ → List ℕ
+output way sheet ws start out = unlessRefused (reply way sheet ws start (length out)) out (writtenPanel (panel way (lifts sheet) ws start) out)

@@ -11,12 +11,12 @@ use Rattle.probability.specs.Table.{same, sameFraction}
 use Rattle.sheet.specs.Sheet.{Lift, sheetOf}
 use Rattle.reply.specs.Reply.{Reply, numbers, sameReply}
 use Rattle.sheet.specs.Worked.{lift, example}
-use Rattle.selection.specs.Choice.{reply, output}
+use Rattle.selection.specs.Choice.{fourth, reply, output}
 use Rattle.selection.specs.Fair.{share, kept}
 
 -- a sheet, random words, a start and an output, the reply, and the output after the call
 abbrev case : List ℕ → List ℕ → ℕ → List ℕ → Reply → List ℕ → Bool
-case sheet ws start out r after = sameReply (reply sheet ws start (length out)) r && same (output sheet ws start out) after
+case sheet ws start out r after = sameReply (reply fourth sheet ws start (length out)) r && same (output fourth sheet ws start out) after
 
 -- one choice from the first word on, with the number of words read, and a word behind the pair that stays
 abbrev choice : List ℕ → List ℕ → ℕ → ℕ → ℕ → Bool
@@ -47,6 +47,10 @@ noChance = sheetOf (lift 1 1 3 1 0 true ∷ lift 2 1 7 1 1 false ∷ [])
 abbrev twoRounds : List ℕ
 twoRounds = sheetOf (lift 1 1 3 3 0 true ∷ lift 2 1 7 3 1 false ∷ lift 3 0 0 70 1 false ∷ lift 4 0 0 70 1 false ∷ [])
 
+-- a new round of three donors
+abbrev threeDonors : List ℕ
+threeDonors = sheetOf (lift 1 1 1 4 1 true ∷ lift 2 2 1 4 1 true ∷ lift 3 3 1 4 1 true ∷ [])
+
 abbrev pub cases : List Bool
 cases =
     -- M1 to M11 in the document's order; M2 is the document's whole sheet; M11, "always dropped", for each r
@@ -74,8 +78,9 @@ cases =
     ∷ refused twoRounds (0 ∷ 0 ∷ 1 ∷ []) 0 (7 ∷ 8 ∷ 9 ∷ []) 12 4
     ∷ refused twoRounds (0 ∷ []) 1 (6 ∷ 7 ∷ 8 ∷ 9 ∷ []) 13 3
     ∷ refused twoRounds (0 ∷ 0 ∷ []) 0 (6 ∷ 7 ∷ 8 ∷ 9 ∷ []) 13 70
-    -- 1 to 10 before them
+    -- 1 to 10 before them, 10 too
     ∷ refused [] [] 1 [] 1 0
+    ∷ refused threeDonors [] 1 [] 10 4
     ∷ []
 
 -- the three lifts with these new measures, 12 held; 2,097,151 being "not counted"
@@ -109,13 +114,13 @@ silent = lift 1 1 1 1 4 true ∷ lift 2 1 2 1 2097151 false ∷ []
 -- each lift of each new round has exactly b over S
 abbrev pub shareCases : List Bool
 shareCases =
-    sameFraction (share small 1 0) (2 // 3)
-    ∷ sameFraction (share small 1 1) (1 // 3)
-    ∷ sameFraction (share small 2 0) (1 // 1)
-    ∷ sameFraction (share silent 1 0) (4 // 6)
-    ∷ sameFraction (share silent 1 1) (2 // 6)
+    sameFraction (share fourth small 1 0) (2 // 3)
+    ∷ sameFraction (share fourth small 1 1) (1 // 3)
+    ∷ sameFraction (share fourth small 2 0) (1 // 1)
+    ∷ sameFraction (share fourth silent 1 0) (4 // 6)
+    ∷ sameFraction (share fourth silent 1 1) (2 // 6)
     ∷ []
 
 -- "what the ways weigh whose lift is held in their own marking"
 abbrev pub keepingCases : List Bool
-keepingCases = sameFraction (kept exchanged 1) (6 // 9) ∷ sameFraction (kept silent 1) (12 // 18) ∷ []
+keepingCases = sameFraction (kept fourth exchanged 1) (6 // 9) ∷ sameFraction (kept fourth silent 1) (12 // 18) ∷ []

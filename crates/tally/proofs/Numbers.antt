@@ -3,7 +3,11 @@ use Prim.Native.Nat.{ℕ, suc, _<_}
 use mathlib.Core.List.{List, [], _∷_}
 use native.Mathlib.Omega.{arith}
 use Rattle.sheet.specs.Reading.{Reading, faulty, sound, ofWords}
-use Rattle.tally.specs.Verdict.{Verdict, refused, fits, firstRound, ofRounds, unlessFaulty, verdict}
+use Rattle.tally.specs.Verdict.{Verdict, refused, fits, firstRound, firstRefusal, ofRounds, unlessFaulty, verdictBy}
+use Rattle.sheet.specs.Sheet.{Lift, lifts}
+use Rattle.reply.specs.Refusal.{refusalOf}
+use Rattle.reply.specs.declared.Refusal.{Refusal}
+use Rattle.reply.specs.declared.Refusal.the-variants.{Length, Sequence, Number, Place, Count, Mark, NotOneHeld, Oversize, ZeroSum, TooManyDonors, Start, Output, Words, Form, Lift as AtLift, Uncounted, Next}
 use Rattle.sheet.proofs.Legibility.{AboveWord, above-of-words}
 
 abbrev pub Above : Verdict → Type 0
@@ -15,12 +19,36 @@ unfolding firstRound
 above-round n [] v h = h
 above-round n (r ∷ rs) v h = omega arith
 
+above-refusal : (x : Refusal) → 0 < refusalOf x .number
+above-refusal (Length place) = omega arith
+above-refusal (Sequence place) = omega arith
+above-refusal (Number place) = omega arith
+above-refusal (Place place) = omega arith
+above-refusal (Count place) = omega arith
+above-refusal (Mark place) = omega arith
+above-refusal (NotOneHeld place) = omega arith
+above-refusal (Oversize place) = omega arith
+above-refusal (ZeroSum place) = omega arith
+above-refusal (TooManyDonors place) = omega arith
+above-refusal (Start place) = omega arith
+above-refusal (Output place) = omega arith
+above-refusal (Words place) = omega arith
+above-refusal (Form place) = omega arith
+above-refusal (AtLift place) = omega arith
+above-refusal (Uncounted place) = omega arith
+above-refusal (Next place) = omega arith
+
+above-last : (xs : List Refusal) (v : Verdict) → Above v → Above (firstRefusal xs v)
+unfolding firstRefusal
+above-last [] v h = h
+above-last (x ∷ xs) v h = above-refusal x
+
 above-word : (r : Reading) (v : Verdict) → AboveWord r → Above v → Above (unlessFaulty r v)
 above-word (faulty x) v h k = h
 above-word sound v h k = k
 
-pub above : (ws : List ℕ) → Above (verdict ws)
-unfolding verdict ofRounds
-above ws =
+pub above : (refuses : List Lift → List Refusal) (ws : List ℕ) → Above (verdictBy refuses ws)
+unfolding verdictBy ofRounds
+above refuses ws =
     above-word (ofWords ws) _ (above-of-words ws)
-    (above-round 6 _ _ (above-round 7 _ _ (above-round 7 _ _ (above-round 8 _ _ (above-round 9 _ _ tt)))))
+    (above-round 6 _ _ (above-round 7 _ _ (above-round 7 _ _ (above-round 8 _ _ (above-last (refuses (lifts ws)) _ tt)))))

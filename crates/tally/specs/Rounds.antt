@@ -46,11 +46,14 @@ sends t r (l ∷ ls) = brings t r l || sends t r ls
 abbrev pub donors : ℕ → List Lift → List ℕ
 donors r ls = rounds (λ t. sends t r ls)
 
--- the number of an old round among the donors, 0 if it is none: "The lower-numbered donor is donor 1."
+-- the number of an old round among some that are numbered from k up, 0 if it is none of them
+abbrev pub numberFrom : ℕ → List ℕ → ℕ → ℕ
+numberFrom k [] t = 0
+numberFrom k (d ∷ ds) t = cond (eqb d t) k (numberFrom (suc k) ds t)
+
+-- the number of an old round among the donors: "The lower-numbered donor is donor 1."
 abbrev pub donorNumber : List ℕ → ℕ → ℕ
-donorNumber [] t = 0
-donorNumber (d ∷ []) t = cond (eqb d t) 1 0
-donorNumber (d ∷ e ∷ ds) t = cond (eqb d t) 1 (cond (eqb e t) 2 0)
+donorNumber ds t = numberFrom 1 ds t
 
 -- the lifts of new round r, in lift order
 unfoldable pub ofRound : ℕ → List Lift → List Lift

@@ -1,12 +1,14 @@
 -- "Refused because of the sheet" of document 01.
 use Prim.Native.Nat.{ℕ}
 use mathlib.Core.Bool.{Bool, not, _&&_}
-use mathlib.Core.List.{List, [], _∷_}
+use mathlib.Core.List.{List, [], _∷_, map}
 use lib.ListN.{length}
 use lib.Dec.{eqb, leb, ltb}
 use Rattle.sheet.specs.Sheet.{largestSum, Lift, lifts}
 use Rattle.reply.specs.Reply.{Numbered, numbered, Reply, ofRefusal}
 use Rattle.reply.specs.Refusal.{refusalOf}
+use Rattle.reply.specs.declared.Refusal.{Refusal}
+use Rattle.reply.specs.declared.Refusal.the-variants.{TooManyDonors}
 use Rattle.sheet.specs.Reading.{Reading, faulty, sound, ofWords}
 use Rattle.tally.specs.Rounds.{rounds, liftCount, inUse, sumOf, heldCount, donors}
 use Rattle.sheet.specs.Lift.{Side, Old, New}
@@ -52,24 +54,40 @@ unfoldable pub firstRound : ℕ → List ℕ → Verdict → Verdict
 firstRound n [] v = v
 firstRound n (r ∷ rs) v = refused (numbered n r)
 
--- "then 7, 8, 9, 10, each over all rounds rising before the next"; of 8, "old rounds tried first"
-unfoldable pub ofRounds : List Lift → Verdict
-ofRounds ls =
+-- the first of some refusals, if there is one, else what follows
+unfoldable pub firstRefusal : List Refusal → Verdict → Verdict
+firstRefusal [] v = v
+firstRefusal (x ∷ xs) v = refused (refusalOf x)
+
+-- 10 for each new round that it meets, rising
+abbrev pub crowded : List Lift → List Refusal
+crowded ls = map TooManyDonors (rounds (tooManyDonors ls))
+
+-- nothing is refused behind 9
+abbrev pub nothingMore : List Lift → List Refusal
+nothingMore ls = []
+
+-- "then 7, 8, 9, 10, each over all rounds rising before the next"; of 8, "old rounds tried first"; what follows 9 depends on the call
+unfoldable pub ofRounds : List Refusal → List Lift → Verdict
+ofRounds last ls =
     firstRound 7 (rounds (notOneHeld ls))
     (firstRound 8 (rounds (oversize Old ls))
     (firstRound 8 (rounds (oversize New ls))
     (firstRound 9 (rounds (zeroSum ls))
-    (firstRound 10 (rounds (tooManyDonors ls))
-    (fits (length ls) (length (inUse New ls)))))))
+    (firstRefusal last (fits (length ls) (length (inUse New ls)))))))
 
 -- the refusal that a reading met, else what follows
 abbrev pub unlessFaulty : Reading → Verdict → Verdict
 unlessFaulty (faulty x) v = refused x
 unlessFaulty sound v = v
 
--- the refusals of the words, "then" those of the rounds
-unfoldable pub verdict : List ℕ → Verdict
-verdict ws = unlessFaulty (ofWords ws) (ofRounds (lifts ws))
+-- the refusals of the words, "then" those of the rounds; `refuses` gives those behind 9
+unfoldable pub verdictBy : (List Lift → List Refusal) → List ℕ → Verdict
+verdictBy refuses ws = unlessFaulty (ofWords ws) (ofRounds (refuses (lifts ws)) (lifts ws))
+
+-- the verdict with 10 behind 9
+abbrev pub verdict : List ℕ → Verdict
+verdict ws = verdictBy crowded ws
 
 -- the reply of a refused sheet, or what follows from the new rounds of a fitting one
 abbrev pub ofVerdict : Verdict → (ℕ → Reply) → Reply

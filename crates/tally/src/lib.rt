@@ -1,6 +1,7 @@
 // The tables of a sheet by round, refusals 7 to 10, and the verdict on a sheet ("Refused because of the sheet" of document 01).
 ghost use mathlib.Core.Path.{_≡_};
-ghost use Prim.Native.Nat.{_+_};
+ghost use Prim.Native.Nat.{ℕ, _+_};
+ghost use mathlib.Core.List.{List, []};
 ghost use lib.Count.{ones};
 ghost use lib.Dec.{ltb};
 ghost use lib.ListN.{length, getD};
@@ -181,11 +182,11 @@ fn donor_counts(words: [u64; 2 * Sheet::TABLE]) -> [u64; Sheet::TABLE]
 
 // ---- the verdict
 
-// The answer to a legible sheet, from its tables.
+// The answer to a legible sheet up to refusal 9, from its tables.
 fn check_rounds(sheet: &[u32], t: Tallies) -> Checked
     requires { ⌜ Legible (now sheet) ⌝ }
     requires { ⌜ Tabled (lifts (now sheet)) t ⌝ }
-    ensures { λ r. ⌜ verdictOf r ≡ ofRounds (lifts (now (sheet .entry))) ⌝ }
+    ensures { λ r. ⌜ verdictOf r ≡ ofRounds [] (lifts (now (sheet .entry))) ⌝ }
 {
     if let Found::At(r) = first_breaking(Rule::OneHeld, &t.old_lifts, &t.held) {
         return Checked::Refused(Refusal::NotOneHeld(r));
@@ -198,10 +199,6 @@ fn check_rounds(sheet: &[u32], t: Tallies) -> Checked
     }
     if let Found::At(r) = first_breaking(Rule::SomeMeasure, &t.new_lifts, &t.new_sums) {
         return Checked::Refused(Refusal::ZeroSum(r));
-    }
-    let donors = donor_counts(t.donors);
-    if let Found::At(r) = first_breaking(Rule::FewDonors, &t.new_lifts, &donors) {
-        return Checked::Refused(Refusal::TooManyDonors(r));
     }
     Checked::Fits(Sheet {
         lifts: sheet::size(sheet),
@@ -228,7 +225,7 @@ fn refuse(x: Refusal) -> Examined
     }
 }
 
-// The answer to any words: refused, with the document's number and place, or fitting, with the tables by round.
+// The answer to any words by refusals 1 to 9 and 16: refused, with the document's number and place, or fitting, with the tables by round.
 pub fn examine(sheet: &[u32]) -> Examined
     ensures { λ r. ⌜ VerdictAndTables (now (sheet .entry)) r ⌝ }
 {
@@ -244,10 +241,26 @@ pub fn examine(sheet: &[u32]) -> Examined
     }
 }
 
+// The answer with refusal 10 behind 9, from the answer up to 9 and its tables.
+pub fn with_donors(e: Examined) -> Checked
+    ensures { λ r. ⌜ ((ws : List ℕ) → VerdictAndTables ws e → verdictOf r ≡ verdict ws) ⌝ }
+{
+    let checked = e.checked;
+    match checked {
+        Checked::Refused(_) => checked,
+        Checked::Fits(_) => {
+            let donors = donor_counts(e.tallies.donors);
+            match first_breaking(Rule::FewDonors, &e.tallies.new_lifts, &donors) {
+                Found::At(r) => Checked::Refused(Refusal::TooManyDonors(r)),
+                Found::Nothing => checked,
+            }
+        }
+    }
+}
+
 // The answer to any words: refused, with the document's number and place, or fitting.
 pub fn check(sheet: &[u32]) -> Checked
     ensures { λ r. ⌜ verdictOf r ≡ verdict (now (sheet .entry)) ⌝ }
 {
-    let e = examine(sheet);
-    e.checked
+    with_donors(examine(sheet))
 }

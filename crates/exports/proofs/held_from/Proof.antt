@@ -1,16 +1,16 @@
--- `exports::held_from` meets its contract: the tests on the count are those of the definition. Assumes nothing.
+-- `exports::held_from` meets its contract: by the count. Assumes nothing.
 use borrow.Author.Tests.{eq-eqb, ne-eqb}
 use Rattle.exports.proofs.held_from.Statement.{statement}
 use Rattle.exports.proofs.held_from.Tie as tie
 
 returns : tie.Need-returns
-returns c = search (eq-eqb, ne-eqb)
+returns c = rw (eq-eqb _ _ (c .if1 .taken))
 
 returns-2 : tie.Need-returns-2
-returns-2 c = search (eq-eqb, ne-eqb)
+returns-2 c = rw (ne-eqb _ _ (c .before .if1 .left), eq-eqb _ _ (c .if2 .taken))
 
 returns-3 : tie.Need-returns-3
-returns-3 c = search (eq-eqb, ne-eqb)
+returns-3 c = rw (ne-eqb _ _ (c .before .if1 .left), ne-eqb _ _ (c .if2 .left))
 
 pub held-from-spec : {M : Type 1} → statement M
 held-from-spec = tie.close (tie.spec returns returns-2 returns-3)

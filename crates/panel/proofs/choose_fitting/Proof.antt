@@ -8,6 +8,7 @@ use Rattle.sheet.specs.Lift.{New}
 use Rattle.tally.proofs.Verdicts.{fit, in-use}
 use Rattle.reply.specs.Refusal.{replyOf}
 use Rattle.selection.proofs.Choices.{few-rounds}
+use Rattle.picks.specs.Choosing.{wayOf}
 use Rattle.panel.proofs.Answers.{onward, writable, lacks, suffices, through}
 use Rattle.reply.proofs.Replies.{left}
 use borrow.Author.Needs.{needs}
@@ -49,8 +50,8 @@ write-choices-requires : tie.Need-write-choices-requires
 write-choices-requires c κs =
     let s = c .before .before .before .before .before .before .before .before .before .before .before in
     let select = c .before .select-all in (
-      writable (lifts (s .args .sheet .now)) (s .args .words .now) (s .args .start) (select .result) (select .ensures) (fit (s .pre .0)) (length (s .args .out .now)) (rw (← rounds (c .before .before .before .before .before)) (nothing (c .before .before) .1)),
-      onward (lifts (s .args .sheet .now)) (s .args .words .now) (s .args .start) (select .result) (select .ensures),
+      writable (wayOf (s .args .way)) (lifts (s .args .sheet .now)) (s .args .words .now) (s .args .start) (select .result) (select .ensures) (fit (s .pre .0)) (length (s .args .out .now)) (rw (← rounds (c .before .before .before .before .before)) (nothing (c .before .before) .1)),
+      onward (wayOf (s .args .way)) (lifts (s .args .sheet .now)) (s .args .words .now) (s .args .start) (select .result) (select .ensures),
     )
 
 same-length : tie.Need-same-length
@@ -60,7 +61,7 @@ returns-2 : tie.Need-returns-2
 returns-2 c =
     let s = c .before .before .before .before .before .before .before .before .before .before .before .before .before .before in
     let select = c .before .before .before .before .select-all in
-    through (lifts (s .args .sheet .now)) (s .args .words .now) (s .args .start) (s .args .out .now) (rounds (c .before .before .before .before .before .before .before .before)) (nothing (c .before .before .before .before .before)) (select .result) (select .ensures) (fit (s .pre .0)) (c .before .before .write-choices .ensures)
+    through (wayOf (s .args .way)) (lifts (s .args .sheet .now)) (s .args .words .now) (s .args .start) (s .args .out .now) (rounds (c .before .before .before .before .before .before .before .before)) (nothing (c .before .before .before .before .before)) (select .result) (select .ensures) (fit (s .pre .0)) (c .before .before .write-choices .ensures)
 
 pub choose-fitting-spec : {M : Type 1} → statement M
 choose-fitting-spec =

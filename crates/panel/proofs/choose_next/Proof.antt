@@ -1,33 +1,56 @@
 -- `panel::choose_next` meets its contract: what the check ensures, by the two cases of its answer; the promises of the next sheet are
--- `carries`, demand 3 is `fair`. Assumes nothing.
-use mathlib.Core.Path.{sym, ap, _∙_}
+-- `carries`, demand 3 is `fair`, of Keyfitz's update. Assumes nothing.
+use Prim.Native.Nat.{ℕ}
+use mathlib.Core.Path.{_≡_, sym, ap, _∙_}
+use mathlib.Core.List.{List}
+use Rattle.round.specs.Choice.{keyfitz}
+use Rattle.round.proofs.Keyfitz.{keyfitz-exact, keyfitz-staying}
 use Rattle.sheet.specs.Sheet.{lifts}
-use Rattle.tally.specs.Verdict.{verdictOf as checked}
+use Rattle.tally.specs.Law.{Fitting}
+use Rattle.tally.specs.Verdict.{crowded, verdict, verdictOf}
 use Rattle.tally.proofs.Verdicts.{decided, fit}
+use Rattle.selection.specs.Choice.{fourth}
+use Rattle.selection.specs.Fair.{Fair}
 use Rattle.selection.proofs.Fair.{fair}
+use Rattle.carry.specs.Law.{CarriesAll}
 use Rattle.carry.proofs.Carrying.{carries}
+use Rattle.panel.proofs.Answers.{judged-fits}
 use Rattle.panel.proofs.Nexts.{at-sheet, at-fitting}
 use borrow.Author.Needs.{needs}
 use Rattle.panel.proofs.choose_next.Statement.{statement}
 use Rattle.panel.proofs.choose_next.Tie as tie
 
+abbrev sheet : tie.After-judge → List ℕ
+sheet c = c .before .before .before .before .before .before .args .sheet .now
+
+-- the verdict with 10 behind 9
+verdict-is : (c : tie.After-judge) → verdictOf (c .judge .result) ≡ verdict (sheet c)
+verdict-is c = c .judge .ensures (sheet c) (c .before .examine .ensures)
+
+-- what is promised of every fitting sheet
+promises : (ws : List ℕ) → (Fitting ws → CarriesAll (lifts ws)) × (Fitting ws → Fair fourth (lifts ws))
+promises ws = (λ f. carries (lifts ws) (fit f), λ f. fair keyfitz keyfitz-exact keyfitz-staying (lifts ws) (fit f))
+
 examine-requires : tie.Need-examine-requires
 examine-requires c κs = search needs
 
-enum-known-checked : tie.Need-enum-known-checked
-enum-known-checked c = search needs
+judge-requires : tie.Need-judge-requires
+judge-requires c κs = search needs
+
+enum-known-x : tie.Need-enum-known-x
+enum-known-x c = search needs
 
 enum-told : tie.Need-enum-told
 enum-told c = search needs
 
 choose-next-fitting-requires : tie.Need-choose-next-fitting-requires
-choose-next-fitting-requires c κs = let x = decided (c .before .before .before .before .before .before .before .before .before .args .sheet .now) .only _ _ (sym (c .before .before .before .before .examine .ensures .verdict) ∙ ap checked (c .before .before .enum-told .given .1)) in (x .0, c .before .before .before .before .examine .ensures .tables (x .0))
+choose-next-fitting-requires c κs = judged-fits (sheet (c .before .before .before .before)) (c .before .before .before .before .before .examine .ensures) (sym (verdict-is (c .before .before .before .before)) ∙ ap verdictOf (c .before .before .enum-told .given .1))
 
 returns : tie.Need-returns
 returns c =
-    let a = c .before .before .before .before .before .before .before .before .args in
-    let e = at-sheet (a .sheet .now) (a .words .now) (a .start) (a .out .now) (a .next .now) (sym (ap checked (c .before .checked .given .1)) ∙ c .before .before .before .examine .ensures .verdict) in
-    (e .0, (e .1 .0, (e .1 .1, (λ f. carries (lifts (a .sheet .now)) (fit f), λ f. fair (lifts (a .sheet .now)) (fit f)))))
+    let a = c .before .before .before .before .before .before .before .before .before .args in
+    let e = at-sheet (a .sheet .now) (a .words .now) (a .start) (a .out .now) (a .next .now) (sym (ap verdictOf (c .before .x .given .1)) ∙ verdict-is (c .before .before .before)) in
+    (e .0, (e .1 .0, (e .1 .1, promises (a .sheet .now))))
 
 same-length : tie.Need-same-length
 same-length c = search needs
@@ -37,18 +60,19 @@ same-length-2 c = search needs
 
 returns-2 : tie.Need-returns-2
 returns-2 c =
-    let a = c .before .before .before .before .before .before .before .before .before .before .before .before .before .before .args in
-    let x = decided (c .before .before .before .before .before .before .before .before .before .before .before .before .before .before .args .sheet .now) .only _ _ (sym (c .before .before .before .before .before .before .before .before .before .examine .ensures .verdict) ∙ ap checked (c .before .before .before .before .before .before .before .enum-told .given .1)) in
+    let a = c .before .before .before .before .before .before .before .before .before .before .before .before .before .before .before .args in
+    let f = judged-fits (sheet (c .before .before .before .before .before .before .before .before .before)) (c .before .before .before .before .before .before .before .before .before .before .examine .ensures) (sym (verdict-is (c .before .before .before .before .before .before .before .before .before)) ∙ ap verdictOf (c .before .before .before .before .before .before .before .enum-told .given .1)) .0 in
     let r = c .before .before .before .before .choose-next-fitting .ensures in
-    let e = at-fitting (a .sheet .now) (a .words .now) (a .start) (a .out .now) (a .next .now) (sym (decided (a .sheet .now) .passes (x .0))) (r .0) (r .1 .0) (r .1 .1) in
-    (e .0, (e .1 .0, (e .1 .1, (λ f. carries (lifts (a .sheet .now)) (fit f), λ f. fair (lifts (a .sheet .now)) (fit f)))))
+    let e = at-fitting (a .sheet .now) (a .words .now) (a .start) (a .out .now) (a .next .now) (sym (decided crowded (a .sheet .now) .passes f)) (r .0) (r .1 .0) (r .1 .1) in
+    (e .0, (e .1 .0, (e .1 .1, promises (a .sheet .now))))
 
 pub choose-next-spec : {M : Type 1} → statement M
 choose-next-spec =
     tie.close
     (tie.spec
     examine-requires
-    enum-known-checked
+    judge-requires
+    enum-known-x
     enum-told
     choose-next-fitting-requires
     returns

@@ -11,6 +11,7 @@ use Rattle.tally.proofs.Verdicts.{fit, in-use}
 use Rattle.carry.specs.Next.{wordsNeeded}
 use Rattle.carry.proofs.Writing.{remaining-fit}
 use Rattle.reply.specs.Refusal.{replyOf}
+use Rattle.selection.specs.Choice.{fourth}
 use Rattle.selection.proofs.Choices.{few-rounds}
 use Rattle.panel.proofs.Answers.{onward, writable, lacks, suffices}
 use Rattle.panel.proofs.Nexts.{both-left, room, cramped, through-next}
@@ -79,8 +80,8 @@ write-choices-requires : tie.Need-write-choices-requires
 write-choices-requires c κs =
     let s = c .before .before .before .before .before .before .before .before .before .before .before .before .before .before .before .before .before .before in
     let select = c .before .before .before .before .before .select-all in (
-      writable (lifts (s .args .sheet .now)) (s .args .words .now) (s .args .start) (select .result) (select .ensures) (fit (s .pre .0)) (length (s .args .out .now)) (nothing (c .before .before .before .before .before .before .before .before) .1),
-      onward (lifts (s .args .sheet .now)) (s .args .words .now) (s .args .start) (select .result) (select .ensures),
+      writable fourth (lifts (s .args .sheet .now)) (s .args .words .now) (s .args .start) (select .result) (select .ensures) (fit (s .pre .0)) (length (s .args .out .now)) (nothing (c .before .before .before .before .before .before .before .before) .1),
+      onward fourth (lifts (s .args .sheet .now)) (s .args .words .now) (s .args .start) (select .result) (select .ensures),
     )
 
 same-length : tie.Need-same-length

@@ -28,7 +28,7 @@ slice-aggregate-select-rounds c = sym (length-take-le _ _ (room (c .before)))
 select-rounds-requires : tie.Need-select-rounds-requires
 select-rounds-requires c κs =
     let p = c .before .before .before .before .pre in
-    (p .0, (p .1, length-take-le _ _ (room (c .before)) ∙ ap (λ n. rowLength * n) (c .before .size .ensures)))
+    (p, length-take-le _ _ (room (c .before)) ∙ ap (λ n. rowLength * n) (c .before .size .ensures))
 
 returns : tie.Need-returns
 returns c = c .before .select-rounds .ensures

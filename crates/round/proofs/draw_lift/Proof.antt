@@ -16,9 +16,6 @@ enum-known-q c = search needs
 pick-lift-requires : tie.Need-pick-lift-requires
 pick-lift-requires c κs = search needs
 
-outcome-requires : tie.Need-outcome-requires
-outcome-requires c κs = search needs
-
 enum-told : tie.Need-enum-told
 enum-told c = search needs
 
@@ -36,7 +33,6 @@ draw-lift-spec =
     draw-from-requires
     enum-known-q
     pick-lift-requires
-    outcome-requires
     enum-told
     returns
     returns-2)

@@ -1,31 +1,21 @@
--- `round::is_held` meets its contract: by the cases of the held lifts. Assumes nothing.
+-- `round::is_held` meets its contract: by the held lift of each donor. Assumes nothing.
+use mathlib.Core.Path.{sym, _∙_}
+use mathlib.Core.Bool.{or-false}
 use borrow.Author.Needs.{needs}
-use borrow.Author.Tests.{eq-eqb, ne-eqb}
 use Rattle.round.proofs.is_held.Statement.{statement}
 use Rattle.round.proofs.is_held.Tie as tie
 
-enum-told : tie.Need-enum-told
-enum-told c = search needs
-
-enum-known-held : tie.Need-enum-known-held
-enum-known-held c = search needs
-
-enum-known-held-2 : tie.Need-enum-known-held-2
-enum-known-held-2 c = search needs
+is-at-requires : tie.Need-is-at-requires
+is-at-requires c κs = search needs
 
 returns : tie.Need-returns
-returns c = rw (c .enum-told .given .1)
+returns c = rw (← c .before .is-at .ensures, c .if1 .taken)
+
+is-at-requires-2 : tie.Need-is-at-requires-2
+is-at-requires-2 c κs = search needs
 
 returns-2 : tie.Need-returns-2
-returns-2 c = rw (c .before .held .given .1)
-
-returns-3 : tie.Need-returns-3
-returns-3 c = rw (c .before .before .held2 .given .1, eq-eqb _ _ (c .if1 .taken))
-
-returns-4 : tie.Need-returns-4
-returns-4 c = rw (c .before .before .held2 .given .1, ne-eqb _ _ (c .if1 .left))
+returns-2 c = rw (← c .before .before .is-at .ensures, c .before .if1 .left) (c .is-at2 .ensures ∙ sym (or-false _))
 
 pub is-held-spec : {M : Type 1} → statement M
-is-held-spec =
-    tie.close
-    (tie.spec enum-told enum-known-held enum-known-held-2 returns returns-2 returns-3 returns-4)
+is-held-spec = tie.close (tie.spec is-at-requires returns is-at-requires-2 returns-2)

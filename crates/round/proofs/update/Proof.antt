@@ -22,20 +22,14 @@ mul-before c = old-fits (weighed (c .before)) (c .before .before .before .before
 mul-after : tie.Need-mul-after
 mul-after c = new-fits (weighed (c .before .before .before)) (c .before .before .before .before .before .before .before .pre .0)
 
-outcome-requires : tie.Need-outcome-requires
-outcome-requires c κs = search needs
-
 returns : tie.Need-returns
-returns c = search (stays, weighed (c .before .before .before .before .before), c .before .if1 .taken, c .outcome .ensures)
+returns c = search (stays, weighed (c .before .before .before .before), c .if1 .taken)
 
 draw-from-requires : tie.Need-draw-from-requires
 draw-from-requires c κs = search needs
 
 enum-known-r : tie.Need-enum-known-r
 enum-known-r c = search needs
-
-outcome-requires-2 : tie.Need-outcome-requires-2
-outcome-requires-2 c κs = search needs
 
 draw-lift-requires : tie.Need-draw-lift-requires
 draw-lift-requires c κs =
@@ -47,8 +41,8 @@ enum-told c = search needs
 
 returns-2 : tie.Need-returns-2
 returns-2 c =
-    let w = weighed (c .before .before .before .before .before .before .before .before .before .before) in
-    search (kept, w, c .before .before .before .before .before .before .if1 .left, c .before .if2 .taken, c .outcome2 .ensures)
+    let w = weighed (c .before .before .before .before .before .before .before .before .before) in
+    search (kept, w, c .before .before .before .before .before .if1 .left, c .if2 .taken)
 
 returns-3 : tie.Need-returns-3
 returns-3 c = search (moved, weighed (c .before .before .before .before .before .before .before .before .before .before))
@@ -64,11 +58,9 @@ update-spec =
     multiplier-requires
     mul-before
     mul-after
-    outcome-requires
     returns
     draw-from-requires
     enum-known-r
-    outcome-requires-2
     draw-lift-requires
     enum-told
     returns-2

@@ -3,12 +3,12 @@ use mathlib.Core.Path.{_≡_, sym, ap₂, _∙_}
 use mathlib.Core.List.{List}
 use Rattle.sheet.specs.Sheet.{Lift, lifts}
 use Rattle.tally.specs.Rounds.{rounds}
-use Rattle.tally.specs.Verdict.{fits, notOneHeld, oversize, zeroSum, tooManyDonors}
+use Rattle.tally.specs.Verdict.{fits, notOneHeld, oversize, zeroSum}
 use Rattle.tally.specs.Tables.{foundFirst, Tabled}
 use Rattle.sheet.specs.Lift.{Old, New}
-use Rattle.tally.specs.declared.Rule.the-variants.{OneHeld, SmallSum, SomeMeasure, FewDonors}
+use Rattle.tally.specs.declared.Rule.the-variants.{OneHeld, SmallSum, SomeMeasure}
 use Rattle.tally.specs.declared.Found.the-variants.{Nothing}
-use Rattle.tally.proofs.Verdicts.{found, in-use, counted, at-notOneHeld, at-old, at-new, at-zeroSum, at-tooManyDonors, at-last}
+use Rattle.tally.proofs.Verdicts.{found, in-use, at-notOneHeld, at-old, at-new, at-zeroSum, at-last}
 use borrow.Author.Needs.{needs}
 use Rattle.tally.proofs.check_rounds.Statement.{statement}
 use Rattle.tally.proofs.check_rounds.Tie as tie
@@ -33,9 +33,6 @@ found3 c = found SmallSum _ _ (tabled (c .before .before .before .before .before
 found4 : (c : tie.After-first-breaking4) → c .first-breaking4 .result ≡ foundFirst (rounds (zeroSum (ls (c .before .before .before .before .before .before .before .before .before .before .before .before .before .before .before .before .before .before))))
 found4 c = found SomeMeasure _ _ (tabled (c .before .before .before .before .before .before .before .before .before .before .before .before .before .before .before .before .before .before) .new-lifts) (tabled (c .before .before .before .before .before .before .before .before .before .before .before .before .before .before .before .before .before .before) .new-sums) (c .first-breaking4 .ensures)
 
-found5 : (c : tie.After-first-breaking5) → c .first-breaking5 .result ≡ foundFirst (rounds (tooManyDonors (ls (c .before .before .before .before .before .before .before .before .before .before .before .before .before .before .before .before .before .before .before .before .before .before .before .before .before .before))))
-found5 c = found FewDonors _ _ (tabled (c .before .before .before .before .before .before .before .before .before .before .before .before .before .before .before .before .before .before .before .before .before .before .before .before .before .before) .new-lifts) (counted (c .before .before .before .before .before .before .before .before .before .before .before .before .before .before .before .before .before .before .before .before .before .before .before .before .before .before .before .before .before .before .before .pre .0) (tabled (c .before .before .before .before .before .before .before .before .before .before .before .before .before .before .before .before .before .before .before .before .before .before .before .before .before .before) .donors) (c .before .before .before .before .donor-counts .ensures)) (c .first-breaking5 .ensures)
-
 -- what each search that found nothing says
 none1 : (c : tie.After-enum-told) → Nothing ≡ foundFirst (rounds (notOneHeld (ls (c .before .before))))
 none1 c = sym (c .enum-told .given .1) ∙ found1 (c .before .before)
@@ -48,9 +45,6 @@ none3 c = sym (c .enum-told3 .given .1) ∙ found3 (c .before .before)
 
 none4 : (c : tie.After-enum-told4) → Nothing ≡ foundFirst (rounds (zeroSum (ls (c .before .before .before .before .before .before .before .before .before .before .before .before .before .before .before .before .before .before .before .before))))
 none4 c = sym (c .enum-told4 .given .1) ∙ found4 (c .before .before)
-
-none5 : (c : tie.After-enum-told5) → Nothing ≡ foundFirst (rounds (tooManyDonors (ls (c .before .before .before .before .before .before .before .before .before .before .before .before .before .before .before .before .before .before .before .before .before .before .before .before .before .before .before .before))))
-none5 c = sym (c .enum-told5 .given .1) ∙ found5 (c .before .before)
 
 first-breaking-requires : tie.Need-first-breaking-requires
 first-breaking-requires c κs = search needs
@@ -100,31 +94,16 @@ returns-4 c = at-zeroSum (ls (c .before .before .before .before .before .before 
 enum-told-4 : tie.Need-enum-told-4
 enum-told-4 c = search needs
 
-donor-counts-requires : tie.Need-donor-counts-requires
-donor-counts-requires c κs = search needs
-
-first-breaking-requires-5 : tie.Need-first-breaking-requires-5
-first-breaking-requires-5 c κs = search needs
-
-enum-known-r-5 : tie.Need-enum-known-r-5
-enum-known-r-5 c = search needs
-
-returns-5 : tie.Need-returns-5
-returns-5 c = at-tooManyDonors (ls (c .before .before .before .before .before .before .before .before .before .before .before .before .before .before .before .before .before .before .before .before .before .before .before .before .before .before .before .before .before)) (none1 (c .before .before .before .before .before .before .before .before .before .before .before .before .before .before .before .before .before .before .before .before .before .before .before .before .before .before .before)) (none2 (c .before .before .before .before .before .before .before .before .before .before .before .before .before .before .before .before .before .before .before .before .before)) (none3 (c .before .before .before .before .before .before .before .before .before .before .before .before .before .before .before)) (none4 (c .before .before .before .before .before .before .before .before .before)) (sym (c .before .r5 .given .1) ∙ found5 (c .before .before .before))
-
-enum-told-5 : tie.Need-enum-told-5
-enum-told-5 c = search needs
-
 size-requires : tie.Need-size-requires
-size-requires c κs = c .before .before .before .before .before .before .before .before .before .before .before .before .before .before .before .before .before .before .before .before .before .before .before .before .before .before .before .before .before .before .before .before .before .pre .0
+size-requires c κs = c .before .before .before .before .before .before .before .before .before .before .before .before .before .before .before .before .before .before .before .before .before .before .before .before .before .pre .0
 
 in-use-requires : tie.Need-in-use-requires
 in-use-requires c κs = search needs
 
-returns-6 : tie.Need-returns-6
-returns-6 c =
-    ap₂ fits (c .before .before .before .size .ensures) (in-use (ls (c .before .before .before .before .before .before .before .before .before .before .before .before .before .before .before .before .before .before .before .before .before .before .before .before .before .before .before .before .before .before .before .before)) (tabled (c .before .before .before .before .before .before .before .before .before .before .before .before .before .before .before .before .before .before .before .before .before .before .before .before .before .before .before .before .before .before .before .before) .new-lifts) (c .in-use .ensures))
-    ∙ at-last (ls (c .before .before .before .before .before .before .before .before .before .before .before .before .before .before .before .before .before .before .before .before .before .before .before .before .before .before .before .before .before .before .before .before)) (none1 (c .before .before .before .before .before .before .before .before .before .before .before .before .before .before .before .before .before .before .before .before .before .before .before .before .before .before .before .before .before .before)) (none2 (c .before .before .before .before .before .before .before .before .before .before .before .before .before .before .before .before .before .before .before .before .before .before .before .before)) (none3 (c .before .before .before .before .before .before .before .before .before .before .before .before .before .before .before .before .before .before)) (none4 (c .before .before .before .before .before .before .before .before .before .before .before .before)) (none5 (c .before .before .before .before))
+returns-5 : tie.Need-returns-5
+returns-5 c =
+    ap₂ fits (c .before .before .before .size .ensures) (in-use (ls (c .before .before .before .before .before .before .before .before .before .before .before .before .before .before .before .before .before .before .before .before .before .before .before .before)) (tabled (c .before .before .before .before .before .before .before .before .before .before .before .before .before .before .before .before .before .before .before .before .before .before .before .before) .new-lifts) (c .in-use .ensures))
+    ∙ at-last (ls (c .before .before .before .before .before .before .before .before .before .before .before .before .before .before .before .before .before .before .before .before .before .before .before .before)) (none1 (c .before .before .before .before .before .before .before .before .before .before .before .before .before .before .before .before .before .before .before .before .before .before)) (none2 (c .before .before .before .before .before .before .before .before .before .before .before .before .before .before .before .before)) (none3 (c .before .before .before .before .before .before .before .before .before .before)) (none4 (c .before .before .before .before))
 
 pub check-rounds-spec : {M : Type 1} → statement M
 check-rounds-spec =
@@ -146,11 +125,6 @@ check-rounds-spec =
     enum-known-r-4
     returns-4
     enum-told-4
-    donor-counts-requires
-    first-breaking-requires-5
-    enum-known-r-5
-    returns-5
-    enum-told-5
     size-requires
     in-use-requires
-    returns-6)
+    returns-5)

@@ -30,10 +30,10 @@ check-rounds-requires : tie.Need-check-rounds-requires
 check-rounds-requires c κs = (legible (c .before), c .survey .ensures)
 
 returns : tie.Need-returns
-returns c = answered-refused (c .refuse .ensures) (at-word _ (sym (ap readingOf (c .before .before .x .given .1)) ∙ c .before .before .before .before .read .ensures))
+returns c = answered-refused (c .refuse .ensures) (at-word _ _ (sym (ap readingOf (c .before .before .x .given .1)) ∙ c .before .before .before .before .read .ensures))
 
 returns-2 : tie.Need-returns-2
-returns-2 c = record { verdict = at-rounds _ (sym (ap readingOf (c .before .before .enum-told .given .1)) ∙ c .before .before .before .before .read .ensures) (c .check-rounds .ensures); tables = λ f. c .before .survey .ensures }
+returns-2 c = record { verdict = at-rounds _ _ (sym (ap readingOf (c .before .before .enum-told .given .1)) ∙ c .before .before .before .before .read .ensures) (c .check-rounds .ensures); tables = λ f. c .before .survey .ensures }
 
 pub examine-spec : {M : Type 1} → statement M
 examine-spec =

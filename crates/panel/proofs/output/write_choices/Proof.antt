@@ -6,7 +6,7 @@ use Rattle.panel.proofs.output.write_choices.Statement.{statement}
 use Rattle.panel.proofs.output.write_choices.Tie as tie
 
 returns : tie.Need-returns
-returns c = record { replies = λ ls ws d _. replied-ended ls ws _ _ d (c .if1 .taken); writes = λ ls ws d _. written-ended ls ws _ _ d (c .if1 .taken) _ }
+returns c = record { replies = λ way ls ws d _. replied-ended way ls ws _ _ d (c .if1 .taken); writes = λ way ls ws d _. written-ended way ls ws _ _ d (c .if1 .taken) _ }
 
 write-pairs-requires : tie.Need-write-pairs-requires
 write-pairs-requires c κs = c .before .before .before .before .before .before .before .pre .0 (c .before .before .before .before .before .if1 .left)
@@ -21,8 +21,8 @@ returns-2 : tie.Need-returns-2
 returns-2 c =
     let z = c .before .before .before .before .before .before .before .before .before .if1 .left in
     record {
-      replies = λ ls ws d e. replied-done ls ws _ _ d z e;
-      writes = λ ls ws d f. c .before .before .before .write-pairs .ensures ∙ written-done ls ws _ _ d f z _;
+      replies = λ way ls ws d e. replied-done way ls ws _ _ d z e;
+      writes = λ way ls ws d f. c .before .before .before .write-pairs .ensures ∙ written-done way ls ws _ _ d f z _;
     }
 
 pub write-choices-spec : {M : Type 1} → statement M

@@ -1,6 +1,6 @@
 -- `round::scaling` meets its contract: by how many donors there are; the products have room. Assumes nothing.
 use borrow.Author.Needs.{needs}
-use Rattle.round.proofs.Scales.{first-part, second-part, both-parts, first-times, second-times, scale-none, scale-one, scale-two}
+use Rattle.round.proofs.Scales.{first-part, second-part, both-parts, first-times, second-times, multipliers, multiplied-by}
 use Rattle.round.proofs.weights.scaling.Statement.{statement}
 use Rattle.round.proofs.weights.scaling.Tie as tie
 
@@ -29,13 +29,16 @@ mul-t10 : tie.Need-mul-t10
 mul-t10 c = first-times (c .before .before .before .before .before .before .before .args .t) (c .before .before .before .before .before .donors .given .1) (c .before .before .before .before .before .before .before .pre)
 
 returns : tie.Need-returns
-returns c ls u = scale-none _ ls u (c .enum-told .given .1)
+unfolding multipliers
+returns c ls u = rw (c .enum-told .given .1) (multiplied-by _ _ ls (rw (c .enum-told .given .1) at u))
 
 returns-2 : tie.Need-returns-2
-returns-2 c ls u = scale-one _ ls u (c .enum-told2 .given .1)
+unfolding multipliers
+returns-2 c ls u = rw (c .enum-told2 .given .1) (multiplied-by _ _ ls (rw (c .enum-told2 .given .1) at u))
 
 returns-3 : tie.Need-returns-3
-returns-3 c ls u = scale-two _ ls u (c .before .before .before .before .before .donors .given .1)
+unfolding multipliers
+returns-3 c ls u = rw (c .before .before .before .before .before .donors .given .1) (multiplied-by _ _ ls (rw (c .before .before .before .before .before .donors .given .1) at u))
 
 pub scaling-spec : {M : Type 1} → statement M
 scaling-spec =

@@ -1,4 +1,4 @@
--- `picks::number_at` meets its contract: a row begins with its lift's number. Assumes nothing.
+-- `picks::mark_at` meets its contract: a row's first number stands where the row begins. Assumes nothing.
 use native.Mathlib.Omega.{arith}
 use mathlib.Core.Path.{sym, ap, _∙_}
 use mathlib.Core.List.{[]}
@@ -8,8 +8,8 @@ use lib.ListN.{getD, List·getD-eq-default}
 use Rattle.probability.specs.Pieces.{pieces}
 use Rattle.probability.proofs.Pieces.{length-pieces, piece-inside, piece-element}
 use Rattle.round.specs.Rows.{rowLength}
-use Rattle.picks.proofs.number_at.Statement.{statement}
-use Rattle.picks.proofs.number_at.Tie as tie
+use Rattle.picks.proofs.mark_at.Statement.{statement}
+use Rattle.picks.proofs.mark_at.Tie as tie
 
 mul-result : tie.Need-mul-result
 mul-result c = omega (arith, piece-inside rowLength (c .before .args .rows .now) (c .before .args .place) (c .if1 .taken))
@@ -30,8 +30,8 @@ returns-2 c =
     let a = c .before .args in
     sym (ap (λ p. getD p 0 0) (List·getD-eq-default (pieces rowLength (a .rows .now)) [] {n = a .place} (rw (length-pieces rowLength (a .rows .now)) (c .if1 .left))))
 
-pub number-at-spec : {M : Type 1} → statement M
-number-at-spec =
+pub mark-at-spec : {M : Type 1} → statement M
+mark-at-spec =
     tie.close
     (tie.spec
     mul-result
