@@ -115,15 +115,15 @@ module _ {A : Type 0} (P : A → Type 0) where
 
 -- ---- weights w over their sum N average over the places below n
 
-swap : (q w f : Fraction) → w ⊗ (q ⊗ f) ≡ q ⊗ (w ⊗ f)
-swap q w f = ap₂ _//_ (omega arith) (omega arith)
+pub ⊗-swap : (q w f : Fraction) → w ⊗ (q ⊗ f) ≡ q ⊗ (w ⊗ f)
+⊗-swap q w f = ap₂ _//_ (omega arith) (omega arith)
 
 pub weighted : (n : ℕ) (w : ℕ → ℕ) (N : ℕ) → 0 < N → Σ n w ≡ N → Averages (λ i. i < n) (λ f. sum n (λ i. w i // N ⊗ f i))
 weighted n w N p e = record {
   same = λ f g h. sum-≈ n (λ i l. ⊗-≈ (≈-refl p) (h i l));
   add = λ f g u v. rw (← sum-add n (λ i. w i // N ⊗ f i) (λ i. w i // N ⊗ g i)) (sum-≈ n (λ i l. ≈-sym (⊗-distrib (w i // N) (f i) (g i) p (u i l) (v i l))));
   times = λ q f d u.
-      rw (over-ext _⊕_ (0 // 1) n {f = λ i. w i // N ⊗ (q ⊗ f i)} {g = λ i. q ⊗ (w i // N ⊗ f i)} (λ i _. swap q (w i // N) (f i)))
+      rw (over-ext _⊕_ (0 // 1) n {f = λ i. w i // N ⊗ (q ⊗ f i)} {g = λ i. q ⊗ (w i // N ⊗ f i)} (λ i _. ⊗-swap q (w i // N) (f i)))
       (sum-part n q (λ i. w i // N ⊗ f i) d (λ i l. mul-pos p (u i l)));
   whole = ≈-trans (sum-same n {a = w} {S = N} p (λ i _. record { cross = omega arith; left = omega (arith, p); right = p })) (rw e (record { cross = omega arith; left = p; right = omega arith }));
 }

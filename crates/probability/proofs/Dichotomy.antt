@@ -5,14 +5,12 @@ use mathlib.Core.Bool.{Bool, true, false, cond}
 use native.Mathlib.Nat.{mul-pos}
 use native.Mathlib.Omega.{arith}
 use lib.Dec.{ltb, eqb}
-use borrow.Author.Tests.{lt-ltb, le-ltb}
 use Rattle.probability.specs.Fraction.{Fraction, _//_, _⊕_, _⊗_, _≈_, sum}
 use Rattle.probability.specs.Plan.{Plan, draw, Every, mass, mean}
 use Rattle.probability.specs.Side.{Side, absent, present, join, updateOr, Placed, taken, presence, absence, Known, DichotomyTheorem}
-use Rattle.probability.proofs.Sums.{over-ext}
-use Rattle.probability.proofs.Fractions.{≈-refl, ≈-sym, ≈-trans, ⊕-≈, ⊕-same, ⊗-≈, ⊗-distrib, ⊗-assoc, sum-≈, sum-cut, sum-const, sum-part, sum-zero, sum-den}
+use Rattle.probability.proofs.Fractions.{≈-refl, ≈-sym, ≈-trans, ⊕-≈, ⊕-same, ⊗-≈, ⊗-assoc, sum-≈, sum-part, sum-zero, sum-den}
 use Rattle.probability.proofs.Averages.{av-right, av-mix, independent, pairs, image}
-use Rattle.probability.proofs.Masses.{mass-after, mass-den, mean-classes, every-map}
+use Rattle.probability.proofs.Masses.{every-cond, mass-after, mass-den, mass-cut, mean-classes, every-map}
 
 -- of W values, those that one side has beside another: all where the other is absent, x where it is present
 beside : (W x : ℕ) → Side → ℕ
@@ -23,10 +21,6 @@ pub taken-den : (n i : ℕ) (s : Side) → Placed n s → 0 < taken i s .den
 unfolding taken
 taken-den n i absent f = omega arith
 taken-den n i (present p) f = mass-den (λ i. i < n) (λ a. eqb a i) p f
-
-pub every-cond : {A : Type 0} (P : A → Type 0) (b : Bool) (p q : Plan A) → Every P p → Every P q → Every P (cond b p q)
-every-cond P true p q f g = f
-every-cond P false p q f g = g
 
 -- nothing to join
 pub join-absent : (b l : ℕ) (s : Side) → join b l s absent ≡ s
@@ -39,24 +33,6 @@ unfolding join Every
 join-placed W L n p absent t f g = g
 join-placed W L n p (present x) absent f g = f
 join-placed W L n p (present x) (present y) f g = (p, λ v l. every-cond (λ i. i < n) (ltb v L) x y f g)
-
--- a draw below L + H: a plan for the lower values, another for the rest
-pub mass-cut : {A : Type 0} (t : A → Bool) (L H : ℕ) (p q : Plan A) → 0 < L + H → 0 < mass t p .den → 0 < mass t q .den
-    → mass t (draw (L + H) (λ v. cond (ltb v L) p q)) ≈ mass t p ⊗ L // (L + H) ⊕ H // (L + H) ⊗ mass t q
-unfolding mass mean
-mass-cut t L H p q w c d =
-    let W : ℕ = L + H in
-    let e : sum W (λ v. mass t (cond (ltb v L) p q)) ≈ L // 1 ⊗ mass t p ⊕ H // 1 ⊗ mass t q
-    = rw (
-      sum-cut L H (λ v. mass t (cond (ltb v L) p q)),
-      over-ext _⊕_ (0 // 1) L {f = λ v. mass t (cond (ltb v L) p q)} {g = λ v. mass t p} (λ v l. rw (lt-ltb v L l)),
-      over-ext _⊕_ (0 // 1) H {f = λ v. mass t (cond (ltb (L + v) L) p q)} {g = λ v. mass t q} (λ v l. rw (le-ltb (L + v) L (omega arith))),
-    )
-    (⊕-≈ (sum-const L (mass t p) c) (sum-const H (mass t q) d)) in
-    ≈-trans (⊗-≈ (≈-refl {q = 1 // W} w) e)
-    (≈-trans (≈-sym (⊗-distrib (1 // W) (L // 1 ⊗ mass t p) (H // 1 ⊗ mass t q) w (omega (arith, c)) (omega (arith, d))))
-    (⊕-≈ (record { cross = omega arith; left = mul-pos w (omega (arith, c)); right = mul-pos c w })
-    (record { cross = omega arith; left = mul-pos w (omega (arith, d)); right = mul-pos w d })))
 
 -- the joined side's mass of a place is bilinear in both sides
 taken-join : (W L i n : ℕ) → 0 < W → L ≤ W → (s t : Side) → Placed n s → Placed n t → taken i (join W L s t) ≈ taken i s ⊗ beside W L t // W ⊕ beside W (W - L) s // W ⊗ taken i t

@@ -6,7 +6,7 @@ use native.Mathlib.Nat.{mul-pos, mul-zero, zero-lt-suc, eq-of-mul-eq-mul-right, 
 use native.Mathlib.Omega.{arith}
 use lib.Dec.{eqb, eqb·suc-zero, eqb·zero-suc, eqb·suc-suc}
 use Rattle.probability.specs.Sum.{over, Σ, indicator}
-use Rattle.probability.proofs.Sums.{over-related, over-ext, over-cut, over-add, over-swap, Σ-const}
+use Rattle.probability.proofs.Sums.{over-related, over-ext, over-cut, over-add, Σ-const}
 use Rattle.probability.specs.Fraction.{Fraction, _//_, _⊕_, _⊗_, _≈_, _≲_, sum, sumOver}
 
 pub pos-left : (a b : ℕ) → 0 < a * b → 0 < a
@@ -68,7 +68,7 @@ pub ⊕-assoc : (q r s : Fraction) → (q ⊕ r) ⊕ s ≡ q ⊕ (r ⊕ s)
 pub ⊕-zero : (q : Fraction) → 0 // 1 ⊕ q ≡ q
 ⊕-zero q = ap₂ _//_ (omega arith) (omega arith)
 
-⊕-comm : (q r : Fraction) → q ⊕ r ≡ r ⊕ q
+pub ⊕-comm : (q r : Fraction) → q ⊕ r ≡ r ⊕ q
 ⊕-comm q r = ap₂ _//_ (omega arith) (omega arith)
 
 pub ⊗-assoc : (q r s : Fraction) → (q ⊗ r) ⊗ s ≡ q ⊗ (r ⊗ s)
@@ -93,9 +93,6 @@ pub ⊗-≈ : {q r s t : Fraction} → q ≈ s → r ≈ t → q ⊗ r ≈ s ⊗
 
 pub ⊗-distrib : (q r s : Fraction) → 0 < q .den → 0 < r .den → 0 < s .den → q ⊗ r ⊕ q ⊗ s ≈ q ⊗ (r ⊕ s)
 ⊗-distrib q r s a b c = record { cross = omega arith; left = mul-pos (mul-pos a b) (mul-pos a c); right = mul-pos a (mul-pos b c) }
-
-pub ⊗-distrib-right : (q r s : Fraction) → 0 < q .den → 0 < r .den → 0 < s .den → q ⊗ s ⊕ r ⊗ s ≈ (q ⊕ r) ⊗ s
-⊗-distrib-right q r s a b c = record { cross = omega arith; left = mul-pos (mul-pos a c) (mul-pos b c); right = mul-pos (mul-pos a b) c }
 
 pub ⊗-zero : (q : Fraction) → 0 < q .den → 0 // 1 ⊗ q ≈ 0 // 1
 ⊗-zero q p = record { cross = omega arith; left = omega arith; right = omega arith }
@@ -164,9 +161,6 @@ sum-den n f h = sum-≈ n {g = f} (λ i l. ≈-refl (h i l)) .left
 pub sum-add : (n : ℕ) (f g : ℕ → Fraction) → sum n (λ i. f i ⊕ g i) ≡ sum n f ⊕ sum n g
 sum-add = over-add _⊕_ (0 // 1) ⊕-assoc ⊕-comm ⊕-zero
 
-pub sum-swap : (n m : ℕ) (f : ℕ → ℕ → Fraction) → sum n (λ i. sum m (f i)) ≡ sum m (λ j. sum n (λ i. f i j))
-sum-swap = over-swap _⊕_ (0 // 1) ⊕-assoc ⊕-comm ⊕-zero
-
 pub sum-const : (n : ℕ) (q : Fraction) → 0 < q .den → sum n (λ i. q) ≈ n // 1 ⊗ q
 unfolding over
 sum-const zero q p = record { cross = omega arith; left = omega arith; right = omega arith }
@@ -199,15 +193,6 @@ pub sum-right : (n : ℕ) (q : Fraction) (g : ℕ → Fraction) → 0 < q .den �
 sum-right n q g p h = rw (over-ext _⊕_ (0 // 1) n {g = λ i. q ⊗ g i} (λ i l. ⊗-comm (g i) q), ⊗-comm (sum n g) q) (sum-part n q g p h)
 
 -- a mixture of mixtures: sums of sums, each weighted, sorted by the inner index
-pub sum-mix : (n m : ℕ) (w : ℕ → Fraction) (a : ℕ → ℕ → Fraction) (g : ℕ → Fraction) → ((h : ℕ) → h < n → 0 < w h .den)
-    → ((h : ℕ) → h < n → (i : ℕ) → i < m → 0 < a h i .den) → ((i : ℕ) → i < m → 0 < g i .den)
-    → sum n (λ h. w h ⊗ sum m (λ i. a h i ⊗ g i)) ≈ sum m (λ i. sum n (λ h. w h ⊗ a h i) ⊗ g i)
-sum-mix n m w a g u v x =
-    ≈-trans (sum-≈ n (λ h l. ≈-sym (sum-part m (w h) (λ i. a h i ⊗ g i) (u h l) (λ i k. mul-pos (v h l i k) (x i k)))))
-    (rw (sum-swap n m (λ h i. w h ⊗ (a h i ⊗ g i)))
-    (sum-≈ m (λ i k.
-    rw (over-ext _⊕_ (0 // 1) n {g = λ h. (w h ⊗ a h i) ⊗ g i} (λ h l. sym (⊗-assoc (w h) (a h i) (g i))))
-    (sum-right n (g i) (λ h. w h ⊗ a h i) (x i k) (λ h l. mul-pos (u h l) (v h l i k))))))
 
 -- one of the terms alone
 pub sum-one : (m c : ℕ) (g : ℕ → Fraction) → c < m → ((i : ℕ) → i < m → 0 < g i .den) → sum m (λ i. indicator (eqb c i) // 1 ⊗ g i) ≈ g c

@@ -1,19 +1,20 @@
 -- Laws of the mass of a plan. Each goes by induction over the plan: a draw's subplans share its mass evenly.
 use Prim.Native.Nat.{ℕ, suc, _+_, _*_, _<_}
 use mathlib.Core.Path.{_≡_, refl, ap, ap₂, _∙_}
-use mathlib.Core.Bool.{Bool, true, false}
+use mathlib.Core.Bool.{Bool, true, false, cond}
 use mathlib.Core.List.{List, [], _∷_, _++_, map}
-use native.Mathlib.Nat.{mul-pos, mul-one, add-sub-cancel-left}
+use native.Mathlib.Nat.{mul-pos, mul-one}
 use native.Mathlib.Omega.{arith}
 use lib.ListN.{length, getD}
-use lib.Dec.{eqb}
+use lib.Dec.{eqb, ltb}
+use borrow.Author.Tests.{lt-ltb, le-ltb}
 use Rattle.probability.specs.Sum.{over, Σ, total, indicator}
 use Rattle.probability.specs.Interval.{pick}
 use Rattle.probability.specs.Fraction.{Fraction, _//_, _⊕_, _⊗_, _≈_, _≲_, sum, sumOver}
 use Rattle.probability.specs.Plan.{Plan, done, draw, bind, Every, Drawable, Path, extendPath, paths, weight, mass, mean, Weighed}
 use Rattle.probability.proofs.Sums.{over-related, over-ext, Σ-const}
-use Rattle.probability.proofs.Intervals.{pick-here, pick-beyond, intervals}
-use Rattle.probability.proofs.Fractions.{≈-refl, ≈-sym, ≈-trans, ≈-≲, ⊕-≈, ⊗-≈, sumOver-++, sumOver-map, sumOver-part, sum-≈, sum-cut, sum-const, sum-part, sum-same, sum-≲, sum-one}
+use Rattle.probability.proofs.Intervals.{intervals}
+use Rattle.probability.proofs.Fractions.{≈-refl, ≈-sym, ≈-trans, ≈-≲, ⊕-≈, ⊗-≈, ⊗-distrib, sumOver-++, sumOver-map, sumOver-part, sum-≈, sum-cut, sum-const, sum-part, sum-same, sum-≲, sum-one}
 use Rattle.probability.proofs.Averages.{av-den, av-mix, plan-averages, mean-bind}
 
 -- ---- the list of paths and the recursion
@@ -100,27 +101,31 @@ mean-classes class f g m p x d =
     let av = plan-averages _ p d in
     ≈-trans (av .same f _ (λ a h. ≈-trans (h .1) (≈-sym (sum-one m (class a) g (h .0) x)))) (av-mix av m (λ a i. indicator (eqb (class a) i) // 1) g (λ _ _ _ _. omega arith) x)
 
--- ---- a draw whose value only picks an interval: each index has its weight's part
+-- ---- one draw
 
-sum-pick : (ws : List ℕ) (f : ℕ → Fraction) → ((i : ℕ) → i < length ws → 0 < f i .den)
-    → sum (total ws) (λ q. f (pick ws q)) ≈ sum (length ws) (λ i. getD ws i 0 // 1 ⊗ f i)
-unfolding over total
-sum-pick [] f h = ≈-refl (omega arith)
-sum-pick (w ∷ ws) f h =
-    rw (sum-cut w (total ws) (λ q. f (pick (w ∷ ws) q))
-    ∙ ap₂ _⊕_ (over-ext _ _ w {g = λ q. f 0} (λ q l. ap f (pick-here w ws q l)))
-    (over-ext _ _ (total ws) {g = λ q. f (suc (pick ws q))} (λ q l. rw (pick-beyond w ws (w + q) (omega arith), add-sub-cancel-left))))
-    (⊕-≈ (sum-const w (f 0) (h 0 (omega arith))) (sum-pick ws (λ i. f (suc i)) (λ i l. h (suc i) (omega arith))))
+pub every-cond : {A : Type 0} (P : A → Type 0) (b : Bool) (p q : Plan A) → Every P p → Every P q → Every P (cond b p q)
+every-cond P true p q f g = f
+every-cond P false p q f g = g
 
-pub mass-pick : {A : Type 0} (t : A → Bool) (ws : List ℕ) (k : ℕ → Plan A) → 0 < total ws → ((i : ℕ) → i < length ws → 0 < mass t (k i) .den)
-    → mass t (draw (total ws) (λ q. k (pick ws q))) ≈ sum (length ws) (λ i. getD ws i 0 // total ws ⊗ mass t (k i))
+-- a draw below L + H: a plan for the lower values, another for the rest
+pub mass-cut : {A : Type 0} (t : A → Bool) (L H : ℕ) (p q : Plan A) → 0 < L + H → 0 < mass t p .den → 0 < mass t q .den
+    → mass t (draw (L + H) (λ v. cond (ltb v L) p q)) ≈ mass t p ⊗ L // (L + H) ⊕ H // (L + H) ⊗ mass t q
 unfolding mass mean
-mass-pick t ws k p h =
-    ≈-trans (⊗-≈ (≈-refl {q = 1 // total ws} p) (sum-pick ws (λ i. mass t (k i)) h))
-    (≈-trans (≈-sym (sum-part (length ws) (1 // total ws) (λ i. getD ws i 0 // 1 ⊗ mass t (k i)) p (λ i l. omega (arith, h i l))))
-    (sum-≈ (length ws) (λ i l. record { cross = omega arith; left = mul-pos p (omega (arith, h i l)); right = mul-pos p (h i l) })))
+mass-cut t L H p q w c d =
+    let W : ℕ = L + H in
+    let e : sum W (λ v. mass t (cond (ltb v L) p q)) ≈ L // 1 ⊗ mass t p ⊕ H // 1 ⊗ mass t q
+    = rw (
+      sum-cut L H (λ v. mass t (cond (ltb v L) p q)),
+      over-ext _⊕_ (0 // 1) L {f = λ v. mass t (cond (ltb v L) p q)} {g = λ v. mass t p} (λ v l. rw (lt-ltb v L l)),
+      over-ext _⊕_ (0 // 1) H {f = λ v. mass t (cond (ltb (L + v) L) p q)} {g = λ v. mass t q} (λ v l. rw (le-ltb (L + v) L (omega arith))),
+    )
+    (⊕-≈ (sum-const L (mass t p) c) (sum-const H (mass t q) d)) in
+    ≈-trans (⊗-≈ (≈-refl {q = 1 // W} w) e)
+    (≈-trans (≈-sym (⊗-distrib (1 // W) (L // 1 ⊗ mass t p) (H // 1 ⊗ mass t q) w (omega (arith, c)) (omega (arith, d))))
+    (⊕-≈ (record { cross = omega arith; left = mul-pos w (omega (arith, c)); right = mul-pos c w })
+    (record { cross = omega arith; left = mul-pos w (omega (arith, d)); right = mul-pos w d })))
 
--- where only index j passes the test, its interval's part
+-- a draw whose value only picks an interval, where only index j passes the test: its interval's part
 pub mass-hits : {A : Type 0} (t : A → Bool) (ws : List ℕ) (k : ℕ → A) (j : ℕ) → j < length ws → 0 < total ws → ((i : ℕ) → t (k i) ≡ eqb i j)
     → mass t (draw (total ws) (λ q. done (k (pick ws q)))) ≈ getD ws j 0 // total ws
 unfolding mass mean

@@ -50,15 +50,6 @@ independent-plans t u p q d f =
 
 -- ---- the same plan
 
-pub same-refl : {A : Type 0} (p : Plan A) → SamePlan p p
-unfolding SamePlan
-same-refl (done a) = refl
-same-refl (draw b f) = (refl, λ v l. same-refl (f v))
-
-pub same-cond : {A : Type 0} (b : Bool) (p q r s : Plan A) → SamePlan p r → SamePlan q s → SamePlan (cond b p q) (cond b r s)
-same-cond true p q r s x y = x
-same-cond false p q r s x y = y
-
 pub same-paths : {A : Type 0} (p q : Plan A) → SamePlan p q → paths p ≡ paths q
 unfolding SamePlan paths
 same-paths (done a) (done b) s = ap (λ x. record { values = []; bounds = 1; result = x } ∷ []) s

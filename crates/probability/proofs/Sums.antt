@@ -32,24 +32,13 @@ over-cut op e assoc unit (suc m) n f = simp suc-add (ap (op (f 0)) (over-cut op 
 
 -- for an operation that is commutative too
 module _ {A : Type 0} (op : A → A → A) (e : A) (assoc : (a b c : A) → op (op a b) c ≡ op a (op b c)) (comm : (a b : A) → op a b ≡ op b a) (unit : (a : A) → op e a ≡ a) where
-  middle : (a b c d : A) → op (op a b) (op c d) ≡ op (op a c) (op b d)
+  pub middle : (a b c d : A) → op (op a b) (op c d) ≡ op (op a c) (op b d)
   middle a b c d = assoc a b (op c d) ∙ ap (op a) (sym (assoc b c d) ∙ ap (λ x. op x d) (comm b c) ∙ assoc c b d) ∙ sym (assoc a c (op b d))
 
   pub over-add : (n : ℕ) (f g : ℕ → A) → over op e n (λ i. op (f i) (g i)) ≡ op (over op e n f) (over op e n g)
   unfolding over
   over-add zero f g = sym (unit e)
   over-add (suc n) f g = ap (op (op (f 0) (g 0))) (over-add n (λ i. f (suc i)) (λ i. g (suc i))) ∙ middle _ _ _ _
-
-  over-units : (n : ℕ) → over op e n (λ i. e) ≡ e
-  unfolding over
-  over-units zero = refl
-  over-units (suc n) = unit _ ∙ over-units n
-
-  pub over-swap : (n m : ℕ) (f : ℕ → ℕ → A) → over op e n (λ i. over op e m (f i)) ≡ over op e m (λ j. over op e n (λ i. f i j))
-  unfolding over
-  over-swap zero m f = sym (over-units m)
-  over-swap (suc n) m f =
-      ap (op (over op e m (f 0))) (over-swap n m (λ i. f (suc i))) ∙ sym (over-add m (f 0) (λ j. over op e n (λ i. f (suc i) j)))
 
 pub Σ-add : (n : ℕ) (f g : ℕ → ℕ) → Σ n (λ i. f i + g i) ≡ Σ n f + Σ n g
 Σ-add = over-add _+_ 0 add-assoc add-comm zero-add

@@ -1,6 +1,6 @@
 -- The mean over the initial selections of one donor: it averages, and the donor alone is a side, present with U / T and then at place i with m / U.
 use Prim.Native.Nat.{ℕ, _+_, _*_, _-_, _<_}
-use mathlib.Core.Path.{_≡_, ap, ap₂, _∙_}
+use mathlib.Core.Path.{_≡_, ap, _∙_}
 use mathlib.Core.List.{List}
 use native.Mathlib.Nat.{mul-pos}
 use native.Mathlib.Omega.{arith}
@@ -12,20 +12,15 @@ use Rattle.probability.specs.Fraction.{Fraction, _//_, _⊕_, _⊗_, _≈_, sum
 use Rattle.probability.specs.Plan.{Every, mass, mean}
 use Rattle.probability.specs.Average.{Averages}
 use Rattle.probability.specs.Side.{Placed, taken, presence, absence, Known}
-use Rattle.probability.proofs.Sums.{over-ext, Σ-mul, Σ-map, Σ-one}
-use Rattle.probability.proofs.Fractions.{≈-refl, ≈-sym, ≈-trans, ≈-num, ⊕-≈, ⊕-same, ⊗-≈, ⊗-distrib, sum-≈, sum-den, sum-same, sum-add, sum-part}
+use Rattle.probability.proofs.Sums.{over-ext, middle, Σ-mul, Σ-map, Σ-one}
+use Rattle.probability.proofs.Averages.{⊗-swap}
+use Rattle.probability.proofs.Fractions.{≈-refl, ≈-sym, ≈-trans, ≈-num, ⊕-assoc, ⊕-comm, ⊕-zero, ⊕-≈, ⊕-same, ⊗-≈, ⊗-distrib, sum-≈, sum-den, sum-same, sum-add, sum-part}
 use Rattle.round.specs.Round.{liftAt, measureFrom, U, IsDonor}
 use Rattle.round.specs.Choice.{single}
 use Rattle.round.specs.Share.{meanOverInitial}
 use Rattle.round.specs.Rows.{Inside}
 use Rattle.round.specs.declared.Lift.{Lift}
 use Rattle.round.proofs.WeightSums.{U-sum}
-
-middle : (a b c d : Fraction) → (a ⊕ b) ⊕ (c ⊕ d) ≡ (a ⊕ c) ⊕ (b ⊕ d)
-middle a b c d = ap₂ _//_ (omega arith) (omega arith)
-
-swap : (q w f : Fraction) → w ⊗ (q ⊗ f) ≡ q ⊗ (w ⊗ f)
-swap q w f = ap₂ _//_ (omega arith) (omega arith)
 
 sent-all : (k : ℕ) (ls : List Lift) (x : ℕ) → Σ (length ls) (λ i. measureFrom k (liftAt ls i) * x) ≡ U k ls * x
 sent-all k ls x =
@@ -54,7 +49,7 @@ module _ (k T : ℕ) (ls : List Lift) (s : IsDonor k T ls) where
       record {
         same = λ f g h. ⊕-≈ (sum-≈ n (λ i l. ⊗-≈ (≈-refl p) (h (here i) l))) (⊗-≈ (≈-refl p) (h elsewhere tt));
         add = λ f g u v.
-            rw (← middle (sum n (λ i. w i ⊗ f (here i))) (sum n (λ i. w i ⊗ g (here i))) (z ⊗ f elsewhere) (z ⊗ g elsewhere))
+            rw (← middle _⊕_ (0 // 1) ⊕-assoc ⊕-comm ⊕-zero (sum n (λ i. w i ⊗ f (here i))) (sum n (λ i. w i ⊗ g (here i))) (z ⊗ f elsewhere) (z ⊗ g elsewhere))
             (⊕-≈
             (rw (← sum-add n (λ i. w i ⊗ f (here i)) (λ i. w i ⊗ g (here i)))
             (sum-≈ n (λ i l. ≈-sym (⊗-distrib (w i) (f (here i)) (g (here i)) p (u (here i) l) (v (here i) l)))))
@@ -63,9 +58,9 @@ module _ (k T : ℕ) (ls : List Lift) (s : IsDonor k T ls) where
             let den : (i : ℕ) → i < n → 0 < (w i ⊗ f (here i)) .den = λ i l. mul-pos p (u (here i) l) in
             ≈-trans
             (⊕-≈
-            (rw (over-ext _⊕_ (0 // 1) n {f = λ i. w i ⊗ (q ⊗ f (here i))} {g = λ i. q ⊗ (w i ⊗ f (here i))} (λ i _. swap q (w i) (f (here i))))
+            (rw (over-ext _⊕_ (0 // 1) n {f = λ i. w i ⊗ (q ⊗ f (here i))} {g = λ i. q ⊗ (w i ⊗ f (here i))} (λ i _. ⊗-swap q (w i) (f (here i))))
             (sum-part n q (λ i. w i ⊗ f (here i)) d den))
-            (rw (swap q z (f elsewhere)) (≈-refl (mul-pos d (mul-pos p (u elsewhere tt))))))
+            (rw (⊗-swap q z (f elsewhere)) (≈-refl (mul-pos d (mul-pos p (u elsewhere tt))))))
             (⊗-distrib q (sum n (λ i. w i ⊗ f (here i))) (z ⊗ f elsewhere) d (sum-den n (λ i. w i ⊗ f (here i)) den) (mul-pos p (u elsewhere tt)));
         whole = ≈-trans (initial-const (λ _. 1 // 1) 1 1 (λ i _. ≈-refl (omega arith)) (≈-refl (omega arith)))
             (record { cross = omega (arith, s .part); left = omega arith; right = omega arith });

@@ -13,10 +13,10 @@ use Rattle.probability.specs.Fraction.{_//_, _⊗_, _≈_, sum}
 use Rattle.probability.specs.Interval.{pick}
 use Rattle.probability.specs.Plan.{Plan, done, draw, Every, Drawable, mass, mean}
 use Rattle.probability.proofs.Tests.{eqb-comm}
-use Rattle.probability.proofs.Sums.{over-ext, Σ-add, Σ-mul, Σ-step, Σ-one, Σ-map, map-le}
+use Rattle.probability.proofs.Sums.{over-ext, Σ-add, Σ-mul, Σ-one, Σ-map, map-le}
 use Rattle.probability.proofs.Intervals.{pick-some}
-use Rattle.probability.proofs.Fractions.{≈-refl, ⊗-≈, ⊗-part, cancel, sum-same}
-use Rattle.probability.proofs.Masses.{mass-even, mass-hits}
+use Rattle.probability.proofs.Fractions.{≈-refl, ≈-trans, ⊕-same, ⊗-≈, ⊗-comm, ⊗-part, cancel, sum-same}
+use Rattle.probability.proofs.Masses.{mass-cut, mass-hits}
 use Rattle.round.specs.Round.{Weight, weightAt, growth, G}
 use Rattle.round.specs.Choice.{selection, drawPlace, stayOr, keyfitz}
 use Rattle.round.specs.Share.{chooses, smaller, SameSum, Exact, Staying}
@@ -27,18 +27,13 @@ none = record { old = 0; new = 0 }
 
 -- ---- one unit
 
-mass-cond : {A : Type 0} (t : A → Bool) (b : Bool) (p₁ p₂ : Plan A) {x y S : ℕ} → mass t p₁ ≈ x // S → mass t p₂ ≈ y // S
-    → mass t (cond b p₁ p₂) ≈ cond b x y // S
-mass-cond t true p₁ p₂ h k = h
-mass-cond t false p₁ p₂ h k = k
-
 -- a draw below o: for n of its values one plan, for the others another
-pub mass-split : {A : Type 0} (t : A → Bool) (p₁ p₂ : Plan A) {x y S : ℕ} (o n : ℕ) → 0 < S → 0 < o → n ≤ o → mass t p₁ ≈ x // S → mass t p₂ ≈ y // S
+mass-split : {A : Type 0} (t : A → Bool) (p₁ p₂ : Plan A) {x y S : ℕ} (o n : ℕ) → 0 < S → 0 < o → n ≤ o → mass t p₁ ≈ x // S → mass t p₂ ≈ y // S
     → mass t (draw o (λ r. cond (ltb r n) p₁ p₂)) ≈ (n * x + (o - n) * y) // (o * S)
-unfolding mass mean
-mass-split t p₁ p₂ {x} {y} o n p q l h k =
-    let e : Σ o (λ r. cond (ltb r n) x y) ≡ n * x + (o - n) * y = ap (λ m. Σ m (λ r. cond (ltb r n) x y)) (omega arith) ∙ Σ-step n (o - n) x y in
-    rw e at (mass-even o q p (λ r _. mass-cond t (ltb r n) p₁ p₂ h k))
+mass-split t p₁ p₂ {x} {y} {S} o n p q l h k =
+    let e : n + (o - n) ≡ o = omega arith in
+    ≈-trans (rw e at (mass-cut t n (o - n) p₁ p₂ (omega arith) (h .left) (k .left)))
+    (⊕-same (rw (⊗-comm (mass t p₁) (n // o)) (⊗-≈ {q = n // o} (≈-refl q) h)) (⊗-≈ {q = (o - n) // o} (≈-refl q) k))
 
 -- of the old weight, of N, the smaller weight stays and the loss moves
 mass-stayOr : {A : Type 0} (t : A → Bool) (stay move : Plan A) {x y : ℕ} (w : Weight) (N S : ℕ) → 0 < N → 0 < S → mass t stay ≈ x // S

@@ -15,8 +15,7 @@ use Rattle.probability.specs.Plan.{Plan, done, draw, bind, Every, Drawable, Dra
 use Rattle.probability.specs.Side.{Side, absent, present, join, updateOr, EveryTaken, Placed}
 use Rattle.probability.proofs.Intervals.{pick-some}
 use Rattle.probability.proofs.Fractions.{pos-left}
-use Rattle.probability.proofs.Masses.{every-map, every-after}
-use Rattle.probability.proofs.Dichotomy.{every-cond}
+use Rattle.probability.proofs.Masses.{every-map, every-after, every-cond}
 use Rattle.round.specs.Round.{liftAt, S, D, Weight, oldWeight, newWeight, weights, weightAt, wholeSums, WellPosed}
 use Rattle.round.specs.Choice.{drawPlace, fresh, single, initialAt, firstOdds, preliminaryBy, preliminary, stayOr, keyfitz, planBy, plan, outcome}
 use Rattle.round.specs.Rows.{liftOfMeasures, Bounded, IfHere, Inside, Stands}

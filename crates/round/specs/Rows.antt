@@ -29,7 +29,7 @@ liftOfMeasures m d b = record { old = m; donor = d; new = b }
 abbrev pub rowLength : ℕ
 rowLength = 4
 
--- the lift of a row: lift number, donor, old measure, new measure
+-- the lift of a row: behind a number that is the caller's, donor, old measure, new measure
 abbrev pub rowLift : List ℕ → Lift
 rowLift row = liftOfMeasures (getD row 2 0) (getD row 1 0) (getD row 3 0)
 

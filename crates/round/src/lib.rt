@@ -1,5 +1,5 @@
 // One round: which of its lifts is to carry the recorder ("One round" of document 01). The round is lent as rows in lift
-// order, one for each lift, of four numbers: lift number, donor (1 or 2, 0 for none), old measure and new measure.
+// order, one for each lift, of four numbers: one that is the caller's, donor (1 or 2, 0 for none), old measure and new measure.
 ghost use mathlib.Core.Path.{_≡_};
 ghost use mathlib.Core.List.{[], _∷_, map};
 ghost use Prim.Native.Nat.{_≤_, _<_};
@@ -65,7 +65,7 @@ pub struct Lift {
 }
 
 impl Lift {
-    // How many numbers the row of a lift has: its number, its donor, its old measure and its new one.
+    // How many numbers the row of a lift has: one that is the caller's, its donor, its old measure and its new one.
     pub const ROW: usize = 4;
 }
 

@@ -5,9 +5,8 @@ use native.Mathlib.Omega.{arith}
 use Rattle.sheet.specs.Reading.{Reading, faulty, sound, ofWords}
 use Rattle.tally.specs.Verdict.{Verdict, refused, fits, firstRound, firstRefusal, ofRounds, unlessFaulty, verdictBy}
 use Rattle.sheet.specs.Sheet.{Lift, lifts}
-use Rattle.reply.specs.Refusal.{refusalOf}
 use Rattle.reply.specs.declared.Refusal.{Refusal}
-use Rattle.reply.specs.declared.Refusal.the-variants.{Length, Sequence, Number, Place, Count, Mark, NotOneHeld, Oversize, ZeroSum, TooManyDonors, Start, Output, Words, Form, Lift as AtLift, Uncounted, Next}
+use Rattle.reply.proofs.Replies.{above-refusal}
 use Rattle.sheet.proofs.Legibility.{AboveWord, above-of-words}
 
 abbrev pub Above : Verdict → Type 0
@@ -18,25 +17,6 @@ above-round : (n : ℕ) (rs : List ℕ) (v : Verdict) → Above v → Above (fir
 unfolding firstRound
 above-round n [] v h = h
 above-round n (r ∷ rs) v h = omega arith
-
-above-refusal : (x : Refusal) → 0 < refusalOf x .number
-above-refusal (Length place) = omega arith
-above-refusal (Sequence place) = omega arith
-above-refusal (Number place) = omega arith
-above-refusal (Place place) = omega arith
-above-refusal (Count place) = omega arith
-above-refusal (Mark place) = omega arith
-above-refusal (NotOneHeld place) = omega arith
-above-refusal (Oversize place) = omega arith
-above-refusal (ZeroSum place) = omega arith
-above-refusal (TooManyDonors place) = omega arith
-above-refusal (Start place) = omega arith
-above-refusal (Output place) = omega arith
-above-refusal (Words place) = omega arith
-above-refusal (Form place) = omega arith
-above-refusal (AtLift place) = omega arith
-above-refusal (Uncounted place) = omega arith
-above-refusal (Next place) = omega arith
 
 above-last : (xs : List Refusal) (v : Verdict) → Above v → Above (firstRefusal xs v)
 unfolding firstRefusal
