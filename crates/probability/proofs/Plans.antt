@@ -1,11 +1,12 @@
 -- Two plans of which neither looks at the other have independent results, and plans that are the same have the same paths.
+use Prim.Native.Nat.{ℕ, _<_}
 use mathlib.Core.Path.{_≡_, refl, ap, fun-ext, _∙_}
 use mathlib.Core.Bool.{Bool, true, false, cond, _&&_}
 use mathlib.Core.List.{[], _∷_, _++_, map}
 use native.Mathlib.Omega.{arith}
 use Rattle.probability.specs.Sum.{indicator}
 use Rattle.probability.specs.Fraction.{Fraction, _//_, _⊗_, _≈_}
-use Rattle.probability.specs.Plan.{Plan, done, draw, bind, both, SamePlan, Every, Drawable, extendPath, paths, mass, mean, passBoth, IndependentPlans}
+use Rattle.probability.specs.Plan.{Plan, done, draw, bind, both, SamePlan, Every, Drawable, extendPath, paths, mass, mean, passBoth, IndependentPlans, SamePlanTheorem}
 use Rattle.probability.proofs.Sums.{over-ext}
 use Rattle.probability.proofs.Fractions.{≈-sym, ≈-trans, ⊗-≈}
 use Rattle.probability.proofs.Averages.{independent, plan-averages}
@@ -50,9 +51,21 @@ independent-plans t u p q d f =
 
 -- ---- the same plan
 
-pub same-paths : {A : Type 0} (p q : Plan A) → SamePlan p q → paths p ≡ paths q
+same-refl : {A : Type 0} (p : Plan A) → SamePlan p p
+unfolding SamePlan
+same-refl (done a) = refl
+same-refl (draw b f) = (refl, λ v l. same-refl (f v))
+
+same-draw : {A : Type 0} (b : ℕ) (f g : ℕ → Plan A) → ((v : ℕ) → v < b → SamePlan (f v) (g v)) → SamePlan (draw b f) (draw b g)
+unfolding SamePlan
+same-draw b f g h = (refl, h)
+
+same-paths : {A : Type 0} (p q : Plan A) → SamePlan p q → paths p ≡ paths q
 unfolding SamePlan paths
 same-paths (done a) (done b) s = ap (λ x. record { values = []; bounds = 1; result = x } ∷ []) s
 same-paths (done a) (draw c g) s = absurd s
 same-paths (draw b f) (done a) s = absurd s
 same-paths (draw b f) (draw c g) s = rw (← s .0) (over-ext _++_ [] b (λ v l. ap (map (extendPath b v)) (same-paths (f v) (g v) (s .1 v l))))
+
+pub same-plan-theorem : SamePlanTheorem
+same-plan-theorem = record { itself = same-refl; below = same-draw; path = same-paths }

@@ -89,3 +89,12 @@ pub record IndependentPlans {A B : Type 0} (t : A → Bool) (u : B → Bool) (p 
   pub masses : mass (passBoth t u) (both p q) ≈ mass t p ⊗ mass u q
   -- and so do the weights of the paths
   pub weights : weight (passBoth t u) (paths (both p q)) ≈ weight t (paths p) ⊗ weight u (paths q)
+
+-- what is proved of plans that are the same (proofs/Plans.antt)
+pub record SamePlanTheorem : Type 1 where
+  -- every plan is the same as itself
+  pub itself : {A : Type 0} (p : Plan A) → SamePlan p p
+  -- what a draw goes on with at its bound and above makes no difference
+  pub below : {A : Type 0} (b : ℕ) (f g : ℕ → Plan A) → ((v : ℕ) → v < b → SamePlan (f v) (g v)) → SamePlan (draw b f) (draw b g)
+  -- they have the same paths
+  pub path : {A : Type 0} (p q : Plan A) → SamePlan p q → paths p ≡ paths q
