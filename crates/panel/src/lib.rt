@@ -1,5 +1,6 @@
 // The whole choice: one lift for each new round of a sheet ("The reply" and "Refused because of what was lent" of document 01).
 ghost use mathlib.Core.Path.{_≡_};
+ghost use mathlib.Core.List.{List};
 ghost use Prim.Native.Nat.{ℕ, _≤_};
 ghost use lib.ListN.{length};
 ghost use Rattle.reply.specs.Reply.{replied, unlessRefused};
@@ -9,7 +10,6 @@ ghost use Rattle.sheet.specs.Reading.{Legible};
 ghost use Rattle.sheet.specs.Lift.{New};
 ghost use Rattle.tally.specs.Rounds.{inUse};
 ghost use Rattle.tally.specs.Tables.{Tabled};
-ghost use mathlib.Core.List.{List};
 ghost use Rattle.tally.specs.Verdict.{verdictBy, verdictOf};
 ghost use Rattle.tally.specs.Law.{Fitting, VerdictAndTables};
 ghost use Rattle.picks.specs.Choosing.{wayOf};

@@ -113,8 +113,8 @@ module _ {A B : Type 0} {P : A → Type 0} {Q : B → Type 0} {M : (A → Fracti
     right = mul-pos (mul-pos (k .positive) (l .positive)) p;
   }
 
-  lift : (i : ℕ) → i < n → M (λ g. N (λ h. taken i (join W L (s g) (t h)))) ≈ (X * (c * a i + d * b i)) // (Z₁ * Z₂ * D)
-  lift i u =
+  place : (i : ℕ) → i < n → M (λ g. N (λ h. taken i (join W L (s g) (t h)))) ≈ (X * (c * a i + d * b i)) // (Z₁ * Z₂ * D)
+  place i u =
       let av = k .averages in let aw = l .averages in let pp = pairs av aw in
       let e : X * (c * a i) + X * (d * b i) ≡ X * (c * a i + d * b i) = omega arith in
       rw e at
@@ -124,9 +124,9 @@ module _ {A B : Type 0} {P : A → Type 0} {Q : B → Type 0} {M : (A → Fracti
       (λ z f. mul-pos (taken-den n i (s (z .0)) (k .placed (z .0) (f .0))) w) (λ z f. mul-pos w (taken-den n i (t (z .1)) (l .placed (z .1) (f .1)))))
       (⊕-same
       (≈-trans (independent av aw (λ g. taken i (s g)) (λ h. beside W L (t h) // W) (λ g f. taken-den n i (s g) (k .placed g f)) (λ _ _. w))
-      (≈-trans (⊗-≈ (k .lift i u) (mixed l W L w)) (first-part i)))
+      (≈-trans (⊗-≈ (k .place i u) (mixed l W L w)) (first-part i)))
       (≈-trans (independent av aw (λ g. beside W (W - L) (s g) // W) (λ h. taken i (t h)) (λ _ _. w) (λ h f. taken-den n i (t h) (l .placed h f)))
-      (≈-trans (⊗-≈ (mixed k W (W - L) w) (l .lift i u)) (second-part i))))))
+      (≈-trans (⊗-≈ (mixed k W (W - L) w) (l .place i u)) (second-part i))))))
 
   some : M (λ g. N (λ h. presence (join W L (s g) (t h)) // 1)) ≈ X // (Z₁ * Z₂)
   some =
@@ -155,7 +155,7 @@ module _ {A B : Type 0} {P : A → Type 0} {Q : B → Type 0} {M : (A → Fracti
     whole = rw (x, ← k .whole, ← l .whole) (omega arith);
     positive = mul-pos (k .positive) (l .positive);
     divisor = p;
-    lift = lift;
+    place = place;
     some = some;
     none = none;
   }
@@ -174,7 +174,7 @@ module _ {A : Type 0} {P : A → Type 0} {M : (A → Fraction) → Fraction} {s 
   pub prelim : Known P M s n X Y Z D a → {S : ℕ} → 0 < S → (i : ℕ) → i < n → M (λ x. taken i (s x)) ≈ M (λ x. presence (s x) // 1) ⊗ (a i * S) // (D * S)
   prelim k {S} q i l =
       let d = mul-pos (k .divisor) q in
-      ≈-trans (k .lift i l) (≈-trans (record { cross = omega arith; left = mul-pos (k .positive) (k .divisor); right = mul-pos (k .positive) d }) (⊗-≈ (≈-sym (k .some)) (≈-refl d)))
+      ≈-trans (k .place i l) (≈-trans (record { cross = omega arith; left = mul-pos (k .positive) (k .divisor); right = mul-pos (k .positive) d }) (⊗-≈ (≈-sym (k .some)) (≈-refl d)))
 
   -- the same side by other names of what is averaged over
   pub known-image : {B : Type 0} (t : B → Side) (g : A → B) → ((x : A) → t (g x) ≡ s x) → Known P M s n X Y Z D a → Known (λ y. Placed n (t y)) (λ f. M (λ x. f (g x))) t n X Y Z D a
@@ -186,7 +186,7 @@ module _ {A : Type 0} {P : A → Type 0} {M : (A → Fraction) → Fraction} {s 
         whole = k .whole;
         positive = k .positive;
         divisor = k .divisor;
-        lift = λ i l. ≈-trans (av .same _ (λ x. taken i (s x)) (λ x p. rw (e x) (≈-refl (taken-den n i (s x) (k .placed x p))))) (k .lift i l);
+        place = λ i l. ≈-trans (av .same _ (λ x. taken i (s x)) (λ x p. rw (e x) (≈-refl (taken-den n i (s x) (k .placed x p))))) (k .place i l);
         some = ≈-trans (av .same _ (λ x. presence (s x) // 1) (λ x p. rw (e x) (≈-refl (omega arith)))) (k .some);
         none = ≈-trans (av .same _ (λ x. absence (s x) // 1) (λ x p. rw (e x) (≈-refl (omega arith)))) (k .none);
       }

@@ -54,7 +54,7 @@ pub record Known {A : Type 0} (P : A → Type 0) (M : (A → Fraction) → Fract
   pub whole : X + Y ≡ Z
   pub positive : 0 < Z
   pub divisor : 0 < D
-  pub lift : (i : ℕ) → i < n → M (λ x. taken i (s x)) ≈ (X * a i) // (Z * D)
+  pub place : (i : ℕ) → i < n → M (λ x. taken i (s x)) ≈ (X * a i) // (Z * D)
   pub some : M (λ x. presence (s x) // 1) ≈ X // Z
   pub none : M (λ x. absence (s x) // 1) ≈ Y // Z
 

@@ -76,7 +76,7 @@ module _ (k T : ℕ) (ls : List Lift) (s : IsDonor k T ls) where
         whole = omega (arith, s .part);
         positive = p;
         divisor = s .some;
-        lift = λ i l. ≈-trans
+        place = λ i l. ≈-trans
             (≈-num (ap (λ c. c + (T - U k ls) * 0) (Σ-one (length ls) i (λ a. measureFrom k (liftAt ls a)) l))
             (initial-same (λ x. taken i (single x)) {x = λ a. indicator (eqb a i)} {y = 0} {R = 1} (omega arith) (λ a _. ≈-refl (omega arith)) (≈-refl (omega arith))))
             (record { cross = omega arith; left = omega arith; right = mul-pos p (s .some) });

@@ -1,15 +1,15 @@
 // One round: which of its lifts is to carry the recorder ("One round" of document 01). The round is lent as rows in lift
 // order, one for each lift, of four numbers: one that is the caller's, donor (1 or 2, 0 for none), old measure and new measure.
 ghost use mathlib.Core.Path.{_≡_};
+ghost use mathlib.Core.Bool.{cond};
 ghost use mathlib.Core.List.{[], _∷_, map};
 ghost use Prim.Native.Nat.{_≤_, _<_};
+ghost use lib.Dec.{ltb};
 ghost use lib.ListN.{length};
+ghost use Rattle.probability.specs.Plan.{done, draw as drawOf};
 ghost use Rattle.draw.specs.Draw.{largest};
 ghost use Rattle.draw.specs.Run.{run};
 ghost use Rattle.round.specs.Round.{growth, G};
-ghost use lib.Dec.{ltb};
-ghost use mathlib.Core.Bool.{cond};
-ghost use Rattle.probability.specs.Plan.{done, draw as drawOf};
 ghost use Rattle.round.specs.Choice.{drawPlace, preliminaryBy, keyfitz, isAt, isHeld, outcome as outcomeOf, placed, proposed, answer, selected};
 ghost use Rattle.round.specs.Rows.{rowLifts, initialOf, initials, Callable, HasSums, scaled, WeightsFit, Balanced, Contested};
 use draw::Drawn;

@@ -78,7 +78,7 @@ cases =
     ∷ refused twoRounds (0 ∷ 0 ∷ 1 ∷ []) 0 (7 ∷ 8 ∷ 9 ∷ []) 12 4
     ∷ refused twoRounds (0 ∷ []) 1 (6 ∷ 7 ∷ 8 ∷ 9 ∷ []) 13 3
     ∷ refused twoRounds (0 ∷ 0 ∷ []) 0 (6 ∷ 7 ∷ 8 ∷ 9 ∷ []) 13 70
-    -- 1 to 10 before them, 10 too
+    -- those of the sheet before them: 1, and 10 too
     ∷ refused [] [] 1 [] 1 0
     ∷ refused threeDonors [] 1 [] 10 4
     ∷ []
