@@ -25,7 +25,7 @@ use Rattle.round.specs.declared.Donors.the-variants.{None, One, Two}
 use Rattle.round.specs.declared.Lift.{Lift}
 use Rattle.round.proofs.WeightSums.{old-sum, new-sum, losses, dropped-G, G-le, D-bound, weight-bound}
 use Rattle.round.proofs.Keyfitz.{none, arrival, keyfitz-exact}
-use Rattle.round.proofs.Preliminaries.{knows}
+use Rattle.round.proofs.Preliminaries.{by-donors, knows}
 use Rattle.round.proofs.Shares.{length-weights, same-sum, every-fresh, every-side}
 
 -- ---- outcomes
@@ -120,11 +120,10 @@ module _ (ds : Donors) (ls : List Lift) (f : WellPosed ds ls) (xs : List Initial
 
 drawable : (ds : Donors) (ls : List Lift) → WellPosed ds ls → (xs : List Initial) → Stands (wholeSums ds) xs (length ls) → Drawable (plan ds ls xs)
 unfolding planBy preliminaryBy single join updateOr
-drawable None ls f xs s = rw (stands-at [] xs (length ls) s 0 .1 (omega arith), stands-at [] xs (length ls) s 1 .1 (omega arith)) (every-fresh ls (f .positive))
-drawable (One T) ls f xs s =
-    every-side keyfitz keyfitz-exact (One T) ls (f .positive) (knows (One T) ls (omega arith) (f .donate)) (preliminary (One T) ls xs) (placed-preliminary (One T) ls f xs s)
-drawable (Two T₁ T₂) ls f xs s =
-    every-side keyfitz keyfitz-exact (Two T₁ T₂) ls (f .positive) (knows (Two T₁ T₂) ls (omega arith) (f .donate)) (preliminary (Two T₁ T₂) ls xs) (placed-preliminary (Two T₁ T₂) ls f xs s)
+drawable ds ls f xs =
+    by-donors (λ ds. WellPosed ds ls → Stands (wholeSums ds) xs (length ls) → Drawable (plan ds ls xs))
+    (λ f s. rw (stands-at [] xs (length ls) s 0 .1 (omega arith), stands-at [] xs (length ls) s 1 .1 (omega arith)) (every-fresh ls (f .positive)))
+    (λ ds p f s. every-side keyfitz keyfitz-exact ds ls (f .positive) (knows ds ls p (f .donate)) (preliminary ds ls xs) (placed-preliminary ds ls f xs s)) ds f
 
 -- ---- a lift of new measure 0 is never chosen
 

@@ -33,6 +33,12 @@ pub record Knows (ds : Donors) (ls : List Lift) : Type 0 where
   pub some : 0 < X
   pub known : Known (λ xs. Placed (length ls) (preliminary ds ls xs)) (meanOverHeld ds ls) (preliminary ds ls) (length ls) X Y Z (D ds ls) (λ i. crossMeasure ds (liftAt ls i))
 
+-- a round has no donor, or some
+pub by-donors : (C : Donors → Type 0) → C None → ((ds : Donors) → 0 < length (wholeSums ds) → C ds) → (ds : Donors) → C ds
+by-donors C n s None = n
+by-donors C n s (One T) = s (One T) (omega arith)
+by-donors C n s (Two T₁ T₂) = s (Two T₁ T₂) (omega arith)
+
 -- in every round with a donor
 pub knows : (ds : Donors) (ls : List Lift) → 0 < length (wholeSums ds) → AreDonors 1 (wholeSums ds) ls → Knows ds ls
 unfolding meanOverDonors D crossMeasure preliminaryBy firstOdds single

@@ -19,10 +19,10 @@ use Rattle.round.specs.Round.{liftAt, S, D, oldWeight, newWeight, Weight
 use Rattle.round.specs.Choice.{Selection, selection, Update, drawPlace, fresh, single, preliminaryBy, preliminary, planBy}
 use Rattle.round.specs.Share.{meanOverDonors, meanOverHeld, chooses, takes, SameSum, Exact, roundShare, Shares, SharesTheorem}
 use Rattle.round.specs.declared.Donors.{Donors}
-use Rattle.round.specs.declared.Donors.the-variants.{None, One, Two}
+use Rattle.round.specs.declared.Donors.the-variants.{None}
 use Rattle.round.specs.declared.Lift.{Lift}
 use Rattle.round.proofs.WeightSums.{crossMeasure, old-cross, old-sum, new-sum}
-use Rattle.round.proofs.Preliminaries.{Knows, knows}
+use Rattle.round.proofs.Preliminaries.{Knows, by-donors, knows}
 
 -- ---- the round's weights by place
 
@@ -126,6 +126,6 @@ none-shares update ls q = record {
 }
 
 pub shares : SharesTheorem
-shares update x None ls f = none-shares update ls (f .positive)
-shares update x (One T) ls f = all-shares update x (One T) ls (f .positive) (knows (One T) ls (omega arith) (f .donate))
-shares update x (Two T₁ T₂) ls f = all-shares update x (Two T₁ T₂) ls (f .positive) (knows (Two T₁ T₂) ls (omega arith) (f .donate))
+shares update x ds ls =
+    by-donors (λ ds. WellPosed ds ls → Shares update ds ls) (λ f. none-shares update ls (f .positive))
+    (λ ds p f. all-shares update x ds ls (f .positive) (knows ds ls p (f .donate))) ds
