@@ -21,9 +21,6 @@ and-split false b h = absurd (false≢true h)
 pub digit-low : (b : ℕ) → isDigit b ≡ true → 48 ≤ b
 digit-low b h = leb-true 48 b (and-split (leb 48 b) (leb b 57) h .0)
 
-pub digit-high : (b : ℕ) → isDigit b ≡ true → b ≤ 57
-digit-high b h = leb-true b 57 (and-split (leb 48 b) (leb b 57) h .1)
-
 -- ---- clamping
 
 pub clamp-small : (v : ℕ) → v ≤ cap → clamp v ≡ v

@@ -1,14 +1,13 @@
 -- Averages: what follows of every one, that independent ones multiply, and that plans and weights average.
 use Prim.Native.Nat.{ℕ, zero, suc, _<_}
-use mathlib.Core.Path.{_≡_, refl, ap, ap₂, fun-ext}
+use mathlib.Core.Path.{_≡_, refl, ap, fun-ext}
 use native.Mathlib.Nat.{mul-pos}
 use native.Mathlib.Omega.{arith}
-use Rattle.probability.specs.Sum.{over, Σ}
+use Rattle.probability.specs.Sum.{over}
 use Rattle.probability.specs.Fraction.{Fraction, _//_, _⊕_, _⊗_, _≈_, sum}
 use Rattle.probability.specs.Plan.{Plan, done, draw, bind, Every, mean}
 use Rattle.probability.specs.Average.{Averages}
-use Rattle.probability.proofs.Sums.{over-ext}
-use Rattle.probability.proofs.Fractions.{pos-right, ≈-refl, ≈-sym, ≈-trans, ⊕-≈, ⊗-≈, ⊗-comm, ⊗-distrib, sum-≈, sum-den, sum-add, sum-part, sum-const, sum-same}
+use Rattle.probability.proofs.Fractions.{pos-right, ≈-refl, ≈-sym, ≈-trans, ⊕-≈, ⊗-≈, ⊗-comm, ⊗-distrib, sum-≈, sum-den, sum-add, sum-part, sum-const}
 
 module _ {A : Type 0} {P : A → Type 0} {M : (A → Fraction) → Fraction} (av : Averages P M) where
   pub av-den : (f : A → Fraction) → ((a : A) → P a → 0 < f a .den) → 0 < M f .den
@@ -112,21 +111,6 @@ module _ {A : Type 0} (P : A → Type 0) where
 
   pub plan-averages : (p : Plan A) → Every P p → Averages P (λ f. mean f p)
   plan-averages p d = record { same = mean-same p d; add = mean-add p d; times = mean-times p d; whole = mean-whole p d }
-
--- ---- weights w over their sum N average over the places below n
-
-pub ⊗-swap : (q w f : Fraction) → w ⊗ (q ⊗ f) ≡ q ⊗ (w ⊗ f)
-⊗-swap q w f = ap₂ _//_ (omega arith) (omega arith)
-
-pub weighted : (n : ℕ) (w : ℕ → ℕ) (N : ℕ) → 0 < N → Σ n w ≡ N → Averages (λ i. i < n) (λ f. sum n (λ i. w i // N ⊗ f i))
-weighted n w N p e = record {
-  same = λ f g h. sum-≈ n (λ i l. ⊗-≈ (≈-refl p) (h i l));
-  add = λ f g u v. rw (← sum-add n (λ i. w i // N ⊗ f i) (λ i. w i // N ⊗ g i)) (sum-≈ n (λ i l. ≈-sym (⊗-distrib (w i // N) (f i) (g i) p (u i l) (v i l))));
-  times = λ q f d u.
-      rw (over-ext _⊕_ (0 // 1) n {f = λ i. w i // N ⊗ (q ⊗ f i)} {g = λ i. q ⊗ (w i // N ⊗ f i)} (λ i _. ⊗-swap q (w i // N) (f i)))
-      (sum-part n q (λ i. w i // N ⊗ f i) d (λ i l. mul-pos p (u i l)));
-  whole = ≈-trans (sum-same n {a = w} {S = N} p (λ i _. record { cross = omega arith; left = omega (arith, p); right = p })) (rw e (record { cross = omega arith; left = p; right = omega arith }));
-}
 
 -- an average over the images of what is averaged
 pub image : {A B : Type 0} {P : A → Type 0} {M : (A → Fraction) → Fraction} (Q : B → Type 0) (g : A → B) → ((a : A) → P a → Q (g a)) → Averages P M → Averages Q (λ f. M (λ a. f (g a)))

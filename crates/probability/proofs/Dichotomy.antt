@@ -1,12 +1,12 @@
 -- Kish's dichotomies: two independent sides, each present with the mass X / Z and then taking place i with a i / D, join to a side of the same kind.
 use Prim.Native.Nat.{ℕ, _+_, _*_, _-_, _≤_, _<_}
 use mathlib.Core.Path.{_≡_, refl, ap, fun-ext}
-use mathlib.Core.Bool.{Bool, true, false, cond}
+use mathlib.Core.Bool.{Bool}
 use native.Mathlib.Nat.{mul-pos}
 use native.Mathlib.Omega.{arith}
 use lib.Dec.{ltb, eqb}
 use Rattle.probability.specs.Fraction.{Fraction, _//_, _⊕_, _⊗_, _≈_, sum}
-use Rattle.probability.specs.Plan.{Plan, draw, Every, mass, mean}
+use Rattle.probability.specs.Plan.{Plan, Every, mass, mean}
 use Rattle.probability.specs.Side.{Side, absent, present, join, updateOr, Placed, taken, presence, absence, Known, DichotomyTheorem}
 use Rattle.probability.proofs.Fractions.{≈-refl, ≈-sym, ≈-trans, ⊕-≈, ⊕-same, ⊗-≈, ⊗-assoc, sum-≈, sum-part, sum-zero, sum-den}
 use Rattle.probability.proofs.Averages.{av-right, av-mix, independent, pairs, image}

@@ -77,6 +77,9 @@ pub ⊗-assoc : (q r s : Fraction) → (q ⊗ r) ⊗ s ≡ q ⊗ (r ⊗ s)
 pub ⊗-comm : (q r : Fraction) → q ⊗ r ≡ r ⊗ q
 ⊗-comm q r = ap₂ _//_ (omega arith) (omega arith)
 
+pub ⊗-swap : (q r s : Fraction) → r ⊗ (q ⊗ s) ≡ q ⊗ (r ⊗ s)
+⊗-swap q r s = ap₂ _//_ (omega arith) (omega arith)
+
 pub ⊕-≈ : {q r s t : Fraction} → q ≈ s → r ≈ t → q ⊕ r ≈ s ⊕ t
 ⊕-≈ {q} {r} {s} {t} h k = record {
   cross = omega (arith, ap (λ x. x * (r .den * t .den)) (h .cross), ap (λ x. x * (q .den * s .den)) (k .cross));

@@ -6,8 +6,8 @@ use mathlib.Core.List.{List, [], _∷_, map, List·Memᴰ·head, List·Memᴰ·t
 use native.Mathlib.Nat.{add-assoc, add-comm, suc-add, zero-add, mul-one, mul-zero, zero-mul, suc-mul}
 use native.Mathlib.Omega.{arith}
 use lib.ListN.{length, getD, take, drop}
-use lib.Dec.{ltb, eqb, eqb·suc-zero, eqb·zero-suc, eqb·suc-suc}
-use borrow.Author.Tests.{eqb-true, lt-ltb, le-ltb}
+use lib.Dec.{eqb, eqb·suc-zero, eqb·zero-suc, eqb·suc-suc}
+use borrow.Author.Tests.{eqb-true}
 use Rattle.probability.specs.Sum.{over, Σ, total, valueBy, totalBy, indicator, count}
 use Rattle.probability.proofs.Lists.{All}
 
@@ -55,11 +55,6 @@ unfolding over
 
 pub Σ-cut : (m n : ℕ) (f : ℕ → ℕ) → Σ (m + n) f ≡ Σ m f + Σ n (λ i. f (m + i))
 Σ-cut = over-cut _+_ 0 add-assoc zero-add
-
--- x for the first m numbers, y for the n others
-pub Σ-step : (m n x y : ℕ) → Σ (m + n) (λ i. cond (ltb i m) x y) ≡ m * x + n * y
-Σ-step m n x y =
-    Σ-cut m n (λ i. cond (ltb i m) x y) ∙ ap₂ _+_ (over-ext _ _ m (λ i l. rw (lt-ltb i m l)) ∙ Σ-const m x) (over-ext _ _ n (λ i l. rw (le-ltb (m + i) m (omega arith))) ∙ Σ-const n y)
 
 -- one of the terms alone
 pub Σ-one : (n j : ℕ) (f : ℕ → ℕ) → j < n → Σ n (λ i. f i * indicator (eqb i j)) ≡ f j

@@ -1,5 +1,5 @@
 -- Averages: what a mean over the results of a plan and a mean over initial selections have in common.
-use Prim.Native.Nat.{ℕ, _<_}
+use Prim.Native.Nat.{_<_}
 use Rattle.probability.specs.Fraction.{Fraction, _//_, _⊕_, _⊗_, _≈_}
 
 -- M averages over what satisfies P: it is linear, depends on values there alone, and the average of 1 is 1

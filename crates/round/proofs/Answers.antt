@@ -1,14 +1,13 @@
 -- The answer to a run, draw by draw: one law for each way out of the code.
 use Prim.Native.Nat.{ℕ, _*_, _≤_, _<_}
 use mathlib.Core.Path.{_≡_, refl, sym, ap, _∙_}
-use mathlib.Core.Bool.{Bool, true, false, cond}
+use mathlib.Core.Bool.{Bool, false, cond}
 use mathlib.Core.List.{List, map}
 use native.Mathlib.Omega.{arith}
 use lib.Dec.{ltb}
 use lib.ListN.{length}
 use borrow.Author.Tests.{lt-ltb, le-ltb, le-leb, lt-leb}
 use Rattle.probability.specs.Interval.{pick}
-use Rattle.probability.specs.Initial.{here, elsewhere}
 use Rattle.probability.specs.Plan.{Plan, done, draw}
 use Rattle.probability.specs.Side.{Side, absent, present, updateOr, Placed}
 use Rattle.draw.specs.Draw.{largest, drawAt}
@@ -18,7 +17,7 @@ use Rattle.draw.specs.declared.Drawn.the-variants.{Value, Short as Ended}
 use Rattle.draw.proofs.Runs.{run-every}
 use Rattle.draw.proofs.After.{run-bind}
 use Rattle.round.specs.Round.{Weight, weights, growth, G}
-use Rattle.round.specs.Choice.{Selection, Update, drawPlace, fresh, preliminaryBy, preliminary, stayOr, replacement, keyfitz, planBy, plan, placed, proposed, answer}
+use Rattle.round.specs.Choice.{Selection, drawPlace, fresh, preliminaryBy, preliminary, stayOr, replacement, keyfitz, planBy, plan, placed, proposed, answer}
 use Rattle.round.specs.Rows.{scaled, scaleOf, wholly, initialOf, initials, WeightsFit, Balanced, Callable, Contested}
 use Rattle.round.specs.declared.Donors.{Donors}
 use Rattle.round.specs.declared.Held.{Held}

@@ -13,8 +13,7 @@ use Rattle.probability.specs.Plan.{Every, mass, mean}
 use Rattle.probability.specs.Average.{Averages}
 use Rattle.probability.specs.Side.{Placed, taken, presence, absence, Known}
 use Rattle.probability.proofs.Sums.{over-ext, middle, Σ-mul, Σ-map, Σ-one}
-use Rattle.probability.proofs.Averages.{⊗-swap}
-use Rattle.probability.proofs.Fractions.{≈-refl, ≈-sym, ≈-trans, ≈-num, ⊕-assoc, ⊕-comm, ⊕-zero, ⊕-≈, ⊕-same, ⊗-≈, ⊗-distrib, sum-≈, sum-den, sum-same, sum-add, sum-part}
+use Rattle.probability.proofs.Fractions.{≈-refl, ≈-sym, ≈-trans, ≈-num, ⊕-assoc, ⊕-comm, ⊕-zero, ⊕-≈, ⊕-same, ⊗-≈, ⊗-swap, ⊗-distrib, sum-≈, sum-den, sum-same, sum-add, sum-part}
 use Rattle.round.specs.Round.{liftAt, measureFrom, U, IsDonor}
 use Rattle.round.specs.Choice.{single}
 use Rattle.round.specs.Share.{meanOverInitial}

@@ -6,10 +6,10 @@ use mathlib.Core.List.{List, [], _∷_}
 use native.Mathlib.Nat.{mul-pos}
 use native.Mathlib.Omega.{arith}
 use lib.ListN.{length}
-use Rattle.probability.specs.Initial.{Initial, elsewhere}
-use Rattle.probability.specs.Side.{Placed, join, Known}
+use Rattle.probability.specs.Initial.{Initial}
+use Rattle.probability.specs.Side.{Placed, Known}
 use Rattle.probability.proofs.Dichotomy.{join-absent, dichotomy, relabel, known-image}
-use Rattle.round.specs.Round.{liftAt, measureFrom, U, D, wholeSums, AreDonors}
+use Rattle.round.specs.Round.{liftAt, U, D, wholeSums, AreDonors}
 use Rattle.round.specs.Choice.{single, firstOdds, preliminaryBy, preliminary}
 use Rattle.round.specs.Share.{meanOverDonors, meanOverHeld}
 use Rattle.round.specs.declared.Donors.{Donors}

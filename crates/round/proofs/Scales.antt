@@ -14,10 +14,9 @@ use Rattle.probability.specs.Sum.{total}
 use Rattle.probability.proofs.Sums.{total-map, total-mul}
 use Rattle.round.specs.Round.{S, U, measureFrom, D, oldWeight, newWeight, Weight, weights, growth, G, wholeSums, WellPosed}
 use Rattle.round.specs.Choice.{drawPlace, fresh, firstOdds}
-use Rattle.round.specs.Rows.{HasSums, ProductsFit, scaled, scaleOf, wholly, WeightsFit, Balanced, capacity, Bounded, SumsBounded, Callable}
+use Rattle.round.specs.Rows.{HasSums, ProductsFit, scaled, scaleOf, wholly, WeightsFit, Balanced, capacity, Bounded, SumsBounded}
 use Rattle.round.specs.declared.Donors.{Donors}
 use Rattle.round.specs.declared.Donors.the-variants.{None, One, Two}
-use Rattle.round.specs.declared.Held.{Held}
 use Rattle.round.specs.declared.Lift.{Lift}
 use Rattle.round.specs.declared.Scale.{Scale}
 use Rattle.round.specs.declared.Sums.{Sums}

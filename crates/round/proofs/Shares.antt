@@ -9,14 +9,14 @@ use native.Mathlib.Omega.{arith}
 use lib.ListN.{length, getD, length-map}
 use lib.Dec.{eqb}
 use Rattle.probability.specs.Fraction.{_//_, _⊕_, _⊗_, _≈_, sum}
-use Rattle.probability.specs.Plan.{Plan, Every, Drawable, paths, weight, mass}
+use Rattle.probability.specs.Plan.{Every, Drawable, paths, weight, mass}
 use Rattle.probability.specs.Side.{Side, absent, present, join, updateOr, Placed, taken, presence}
 use Rattle.probability.proofs.Sums.{over-ext}
 use Rattle.probability.proofs.Fractions.{pos-left, ≈-refl, ≈-trans}
 use Rattle.probability.proofs.Masses.{weighed, mass-den, mass-hits, every-map, every-after}
 use Rattle.probability.proofs.Dichotomy.{prelim, side-shares}
-use Rattle.round.specs.Round.{liftAt, S, D, oldWeight, newWeight, Weight, weights, weightAt, wholeSums, WellPosed}
-use Rattle.round.specs.Choice.{Selection, selection, Update, drawPlace, fresh, single, preliminaryBy, preliminary, planBy}
+use Rattle.round.specs.Round.{liftAt, S, D, oldWeight, newWeight, Weight, weights, weightAt, WellPosed}
+use Rattle.round.specs.Choice.{selection, Update, drawPlace, fresh, single, preliminaryBy, preliminary, planBy}
 use Rattle.round.specs.Share.{meanOverDonors, meanOverHeld, chooses, takes, SameSum, Exact, roundShare, Shares, SharesTheorem}
 use Rattle.round.specs.declared.Donors.{Donors}
 use Rattle.round.specs.declared.Donors.the-variants.{None}

@@ -2,7 +2,7 @@
 use Prim.Native.Nat.{ℕ, zero, suc, _+_, _-_, _*_, _/_, _%_, _^_, _≤_, _<_}
 use mathlib.Core.Path.{_≡_, refl, sym, ap, ap₂, _∙_}
 use mathlib.Core.Bool.{Bool, true, false, cond}
-use mathlib.Core.List.{List, [], _∷_, _++_, append-nil, List·Memᴰ}
+use mathlib.Core.List.{List, [], _∷_, _++_, append-nil}
 use native.Mathlib.Nat.{pow-suc, add-zero, zero-add}
 use native.Mathlib.Omega.{arith}
 use lib.Count.{trailingZeros, under}
@@ -16,7 +16,7 @@ use Rattle.rows.specs.SetBits.{setFrom, setBits, noBit, twoAt, firstTwo}
 use Rattle.sheet.specs.Law.{AllWellFormed}
 use Rattle.tally.proofs.Tables.{getD-tabulate}
 use Rattle.tally.proofs.Bits.{low, high}
-use Rattle.tally.proofs.Ranges.{filter-cut, filter-none, filter-in, filter-head}
+use Rattle.tally.proofs.Ranges.{filter-cut, filter-none, filter-head}
 use Rattle.tally.proofs.Sending.{sends-none, from-nowhere, from-beyond}
 use Rattle.tally.proofs.Filling.{Filled, filled-turn}
 
@@ -171,7 +171,3 @@ module _ (r : ℕ) (ls : List Lift) where
   rising-two {d} {e} {ds} q =
       let p : ℕ → Bool = λ t. sends t r ls in
       filter-head p (suc d) (1 + mostRounds - suc d) e ds (sym (filter-head p 1 mostRounds d (e ∷ ds) q .rest)) .from
-
-  -- each donor is a round
-  pub donor-round : {d : ℕ} → List·Memᴰ d (donors r ls) → d ≤ mostRounds
-  donor-round {d} m = omega (arith, filter-in (λ t. sends t r ls) 1 mostRounds d m .2)

@@ -1,7 +1,7 @@
 -- `picks::select_rounds` meets its contract: the choices of the rounds before one, and the panel from it on, are the whole panel. Assumes nothing.
 use native.Mathlib.Omega.{arith}
 use Prim.Native.Nat.{_+_, _-_}
-use mathlib.Core.Path.{_≡_, refl, ap}
+use mathlib.Core.Path.{ap}
 use Rattle.sheet.specs.Sheet.{mostRounds, lifts}
 use Rattle.tally.proofs.Verdicts.{fit}
 use Rattle.picks.specs.Choosing.{updateOf, wayOf}

@@ -1,5 +1,4 @@
 -- `round::outcome` meets its contract: the tests are those of the definition. Assumes nothing.
-use borrow.Author.Needs.{needs}
 use Rattle.round.specs.Choice.{outcome}
 use Rattle.round.proofs.outcome.Statement.{statement}
 use Rattle.round.proofs.outcome.Tie as tie
