@@ -10,7 +10,7 @@ use Rattle.probability.specs.Plan.{done, bind}
 use Rattle.probability.proofs.Lists.{All}
 use Rattle.round.specs.Round.{S, U, D, measureFrom, oldWeight, newWeight, weights, weightAt}
 use Rattle.probability.specs.Initial.{here}
-use Rattle.probability.specs.Side.{join, updateOr}
+use Rattle.probability.specs.Branch.{join, updateOr}
 use Rattle.round.specs.Choice.{selection, single, preliminaryBy, stayOr, keyfitz, planBy, plan}
 use Rattle.round.specs.declared.Donors.the-variants.{One}
 use Rattle.round.specs.declared.Lift.{Lift}

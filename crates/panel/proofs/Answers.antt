@@ -154,8 +154,8 @@ module _ (way : Way) (sheet ws : List ℕ) (start : ℕ) (out : List ℕ) where
   at-fitting e f g = rw (← e) (f, g)
 
 -- a sheet that a way does not refuse fits, and its tables come with the answer up to 9
-pub judged-fits : {refuses : List Lift → List Refusal} (ws : List ℕ) {e : Examined} → VerdictAndTables ws e → {n k : ℕ} → verdictBy refuses ws ≡ fits n k
+pub checked-fits : {refuses : List Lift → List Refusal} (ws : List ℕ) {e : Examined} → VerdictAndTables ws e → {n k : ℕ} → verdictBy refuses ws ≡ fits n k
     → FittingBy refuses ws × Tabled (lifts ws) (e .tallies)
-judged-fits {refuses} ws v q =
+checked-fits {refuses} ws v q =
     let f = decided refuses ws .only _ _ q .0 in
     (f, v .tables (record { legible = f .legible; rounds = f .rounds; last = refl }))

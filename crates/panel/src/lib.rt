@@ -48,7 +48,7 @@ fn lacking(rounds: usize, words: usize, start: usize, room: usize) -> Answer
 }
 
 // The answer with what a way refuses behind 9, from the answer up to 9 and its tables.
-fn judge(way: Way, e: Examined) -> Checked
+fn check_by(way: Way, e: Examined) -> Checked
     ensures { λ r. ⌜ ((ws : List ℕ) → VerdictAndTables ws e → verdictOf r ≡ verdictBy (wayOf way .refuses) ws) ⌝ }
 {
     match way {
@@ -85,7 +85,7 @@ fn choose_by(way: Way, sheet: &[u32], words: &[u64], start: usize, out: &mut [u3
     ensures written { λ _. ⌜ now (out .exit) ≡ output (wayOf way) (now (sheet .entry)) (now (words .entry)) start (now (out .entry)) ⌝ }
 {
     let e = tally::examine(sheet);
-    match judge(way, e) {
+    match check_by(way, e) {
         Checked::Refused(x) => Answer::Refused(x),
         Checked::Fits(_) => choose_fitting(way, sheet, e.tallies, words, start, out),
     }
@@ -162,7 +162,7 @@ pub fn choose_next(
     ensures fair { λ _. ⌜ (Fitting (now (sheet .entry)) → Fair fourth (liftsOfSheet (now (sheet .entry)))) ⌝ }
 {
     let e = tally::examine(sheet);
-    match judge(Way::Fourth, e) {
+    match check_by(Way::Fourth, e) {
         Checked::Refused(x) => Answer::Refused(x),
         Checked::Fits(_) => choose_next_fitting(sheet, e.tallies, words, start, out, next),
     }

@@ -7,4 +7,4 @@ pub mod Among
 pub mod Pieces
 pub mod Initial
 pub mod Average
-pub mod Side
+pub mod Branch

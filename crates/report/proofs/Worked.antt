@@ -9,7 +9,7 @@ use Rattle.probability.specs.Sum.{total, totalBy}
 use Rattle.draw.specs.Draw.{drawFrom}
 use Rattle.draw.specs.Run.{run}
 use Rattle.round.specs.Round.{S, U, D, oldWeight, newWeight, weights, G}
-use Rattle.probability.specs.Side.{join, updateOr}
+use Rattle.probability.specs.Branch.{join, updateOr}
 use Rattle.round.specs.Choice.{drawPlace, firstOdds, single, preliminaryBy, stayOr, keyfitz, planBy, outcome}
 use Rattle.sheet.specs.Sheet.{lifts}
 use Rattle.sheet.specs.Reading.{fault, readFrom}

@@ -9,7 +9,7 @@ use lib.ListN.{length}
 use borrow.Author.Tests.{lt-ltb, le-ltb, le-leb, lt-leb}
 use Rattle.probability.specs.Interval.{pick}
 use Rattle.probability.specs.Plan.{Plan, done, draw}
-use Rattle.probability.specs.Side.{Side, absent, present, updateOr, Placed}
+use Rattle.probability.specs.Branch.{Branch, absent, present, updateOr, TakenBelow}
 use Rattle.draw.specs.Draw.{largest, drawAt}
 use Rattle.draw.specs.Run.{Run, finished, short, extendRun, run, precededBy, continued}
 use Rattle.draw.specs.declared.Drawn.{Drawn}
@@ -124,7 +124,7 @@ module _ (update : ℕ → Plan Selection) (fresh : Plan Selection) (ws : List �
   follow Short = None
 
   -- is the choice
-  follows : (s : Side) → follow (proposed ws from s) ≡ answer (run largest ws from (updateOr update fresh s))
+  follows : (s : Branch) → follow (proposed ws from s) ≡ answer (run largest ws from (updateOr update fresh s))
   unfolding updateOr
   follows absent = refl
   follows (present p) = rw (run-bind largest ws from p update) (go (run largest ws from p))
@@ -134,7 +134,7 @@ module _ (update : ℕ → Plan Selection) (fresh : Plan Selection) (ws : List �
       go short = refl
 
 -- it stands in the round
-at-place : (n : ℕ) (ws : List ℕ) (from : ℕ) (s : Side) → Placed n s → {i next : ℕ} → At i next ≡ proposed ws from s → i < n
+at-place : (n : ℕ) (ws : List ℕ) (from : ℕ) (s : Branch) → TakenBelow n s → {i next : ℕ} → At i next ≡ proposed ws from s → i < n
 at-place n ws from absent f e = let z : _≡_ {A = ℕ} 0 1 = cc in absurd (omega arith)
 at-place n ws from (present p) f {i} {next} e = go (run largest ws from p) refl e
   where

@@ -1,4 +1,4 @@
--- The mean over the initial selections of one donor: it averages, and the donor alone is a side, present with U / T and then at place i with m / U.
+-- The mean over the initial selections of one donor: it averages, and the donor alone is a branch, present with U / T and then at place i with m / U.
 use Prim.Native.Nat.{ℕ, _+_, _*_, _-_, _<_}
 use mathlib.Core.Path.{_≡_, ap, _∙_}
 use mathlib.Core.List.{List}
@@ -11,7 +11,7 @@ use Rattle.probability.specs.Initial.{Initial, here, elsewhere}
 use Rattle.probability.specs.Fraction.{Fraction, _//_, _⊕_, _⊗_, _≈_, sum}
 use Rattle.probability.specs.Plan.{Every, mass, mean}
 use Rattle.probability.specs.Average.{Averages}
-use Rattle.probability.specs.Side.{Placed, taken, presence, absence, Known}
+use Rattle.probability.specs.Branch.{TakenBelow, takenMass, presence, absence, Known}
 use Rattle.probability.proofs.Sums.{over-ext, middle, Σ-mul, Σ-map, Σ-one}
 use Rattle.probability.proofs.Fractions.{≈-refl, ≈-sym, ≈-trans, ≈-num, ⊕-assoc, ⊕-comm, ⊕-zero, ⊕-≈, ⊕-same, ⊗-≈, ⊗-swap, ⊗-distrib, sum-≈, sum-den, sum-same, sum-add, sum-part}
 use Rattle.round.specs.Round.{liftAt, measureFrom, U, IsDonor}
@@ -66,7 +66,7 @@ module _ (k T : ℕ) (ls : List Lift) (s : IsDonor k T ls) where
       }
 
   pub known-single : Known (Inside (length ls)) (meanOverInitial k T ls) single (length ls) (U k ls) (T - U k ls) T (U k ls) (λ i. measureFrom k (liftAt ls i))
-  unfolding single taken presence absence mass mean Every
+  unfolding single takenMass presence absence mass mean Every
   known-single =
       let p = positive in
       record {
@@ -77,7 +77,7 @@ module _ (k T : ℕ) (ls : List Lift) (s : IsDonor k T ls) where
         divisor = s .some;
         place = λ i l. ≈-trans
             (≈-num (ap (λ c. c + (T - U k ls) * 0) (Σ-one (length ls) i (λ a. measureFrom k (liftAt ls a)) l))
-            (initial-same (λ x. taken i (single x)) {x = λ a. indicator (eqb a i)} {y = 0} {R = 1} (omega arith) (λ a _. ≈-refl (omega arith)) (≈-refl (omega arith))))
+            (initial-same (λ x. takenMass i (single x)) {x = λ a. indicator (eqb a i)} {y = 0} {R = 1} (omega arith) (λ a _. ≈-refl (omega arith)) (≈-refl (omega arith))))
             (record { cross = omega arith; left = omega arith; right = mul-pos p (s .some) });
         some = ≈-trans (initial-const (λ x. presence (single x) // 1) 1 0 (λ i _. ≈-refl (omega arith)) (≈-refl (omega arith)))
             (record { cross = omega arith; left = omega arith; right = p });
@@ -85,6 +85,6 @@ module _ (k T : ℕ) (ls : List Lift) (s : IsDonor k T ls) where
             (record { cross = omega arith; left = omega arith; right = p });
       }
     where
-      placed : (x : Initial) → Inside (length ls) x → Placed (length ls) (single x)
+      placed : (x : Initial) → Inside (length ls) x → TakenBelow (length ls) (single x)
       placed elsewhere f = tt
       placed (here i) f = f

@@ -12,7 +12,7 @@ use Rattle.probability.specs.Sum.{total}
 use Rattle.probability.specs.Fraction.{Fraction, _//_, _⊗_, _≈_, sum}
 use Rattle.probability.specs.Initial.{here, elsewhere}
 use Rattle.probability.specs.Plan.{bind, paths, weight, mass}
-use Rattle.probability.specs.Side.{join, updateOr}
+use Rattle.probability.specs.Branch.{join, updateOr}
 use Rattle.probability.proofs.Tests.{eqb-comm}
 use Rattle.probability.proofs.Sums.{over-ext, Σ-mono, Σ-mul, Σ-map, Σ-term}
 use Rattle.probability.proofs.Fractions.{≈-refl, ≈-sym, ≈-trans, ≲-≈, ≈-num, ⊕-same, ⊗-≈, sum-≈}

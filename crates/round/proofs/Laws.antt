@@ -12,7 +12,7 @@ use Rattle.probability.proofs.Sums.{map-le}
 use Rattle.probability.specs.Interval.{pick}
 use Rattle.probability.specs.Initial.{Initial, here, elsewhere}
 use Rattle.probability.specs.Plan.{Plan, done, draw, bind, Every, Drawable, DrawsAtMost}
-use Rattle.probability.specs.Side.{Side, absent, present, join, updateOr, EveryTaken, Placed}
+use Rattle.probability.specs.Branch.{Branch, absent, present, join, updateOr, EveryTaken, TakenBelow}
 use Rattle.probability.proofs.Intervals.{pick-some}
 use Rattle.probability.proofs.Fractions.{pos-left}
 use Rattle.probability.proofs.Masses.{every-map, every-after, every-cond}
@@ -26,7 +26,7 @@ use Rattle.round.specs.declared.Lift.{Lift}
 use Rattle.round.proofs.WeightSums.{old-sum, new-sum, losses, dropped-G, G-le, D-bound, weight-bound}
 use Rattle.round.proofs.Keyfitz.{none, arrival, keyfitz-exact}
 use Rattle.round.proofs.Preliminaries.{by-donors, knows}
-use Rattle.round.proofs.Shares.{length-weights, same-sum, every-fresh, every-side}
+use Rattle.round.proofs.Shares.{length-weights, same-sum, every-fresh, every-branch}
 
 -- ---- outcomes
 
@@ -112,7 +112,7 @@ module _ (ds : Donors) (ls : List Lift) (f : WellPosed ds ls) (xs : List Initial
           let none = stands-at (wholeSums ds) xs (length ls) s k .1 (omega (arith, leb-false 1 (length (wholeSums ds)) q)) in
           let z : _≡_ {A = ℕ} 0 1 = cc in absurd (omega arith)
 
-  pub placed-preliminary : Placed (length ls) (preliminary ds ls xs)
+  pub placed-preliminary : TakenBelow (length ls) (preliminary ds ls xs)
   unfolding preliminaryBy
   placed-preliminary =
       every-preliminary (λ i. i < length ls) (D ds ls) (firstOdds ds ls) (initialAt xs 0) (initialAt xs 1)
@@ -123,7 +123,7 @@ unfolding planBy preliminaryBy single join updateOr
 drawable ds ls f xs =
     by-donors (λ ds. WellPosed ds ls → Stands (wholeSums ds) xs (length ls) → Drawable (plan ds ls xs))
     (λ f s. rw (stands-at [] xs (length ls) s 0 .1 (omega arith), stands-at [] xs (length ls) s 1 .1 (omega arith)) (every-fresh ls (f .positive)))
-    (λ ds p f s. every-side keyfitz keyfitz-exact ds ls (f .positive) (knows ds ls p (f .donate)) (preliminary ds ls xs) (placed-preliminary ds ls f xs s)) ds f
+    (λ ds p f s. every-branch keyfitz keyfitz-exact ds ls (f .positive) (knows ds ls p (f .donate)) (preliminary ds ls xs) (placed-preliminary ds ls f xs s)) ds f
 
 -- ---- a lift of new measure 0 is never chosen
 
@@ -176,16 +176,16 @@ module _ (ds : Donors) (ls : List Lift) (p : 0 < S ls) where
   weighty-at (x ∷ xs) w zero = w .0
   weighty-at (x ∷ xs) w (suc k) = weighty-at xs (w .1) k
 
-  chosen-side : (s : Side) → EveryTaken Weighs s → Every (λ s. 0 < liftAt ls (s .place) .new) (updateOr (keyfitz (weights ds ls)) (fresh ls) s)
+  chosen-branch : (s : Branch) → EveryTaken Weighs s → Every (λ s. 0 < liftAt ls (s .place) .new) (updateOr (keyfitz (weights ds ls)) (fresh ls) s)
   unfolding updateOr
-  chosen-side absent w = chosen-fresh
-  chosen-side (present q) w = every-after Weighs (λ s. 0 < liftAt ls (s .place) .new) q (keyfitz (weights ds ls)) w chosen-update
+  chosen-branch absent w = chosen-fresh
+  chosen-branch (present q) w = every-after Weighs (λ s. 0 < liftAt ls (s .place) .new) q (keyfitz (weights ds ls)) w chosen-update
 
   chosen : (xs : List Initial) → Weighty ds ls xs → Every (λ s. 0 < liftAt ls (s .place) .new) (plan ds ls xs)
   unfolding planBy preliminaryBy
   chosen xs w =
       let u = weighty-at xs w 0 in
-      chosen-side (preliminary ds ls xs) (every-preliminary Weighs (D ds ls) (firstOdds ds ls) (initialAt xs 0) (initialAt xs 1) u (weighty-at xs w 1)
+      chosen-branch (preliminary ds ls xs) (every-preliminary Weighs (D ds ls) (firstOdds ds ls) (initialAt xs 0) (initialAt xs 1) u (weighty-at xs w 1)
       (λ i j e _. pos-left (D ds ls) (S ls) (whole i (rw e at u))))
 
 small : (ds : Donors) (ls : List Lift) → WellPosed ds ls → Bounded ds ls → Fits64 ds ls

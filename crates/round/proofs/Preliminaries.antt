@@ -1,4 +1,4 @@
--- The preliminary lift, over the initial selections: one donor is a side, and two are a dichotomy of two. The inverse odds balance them: with T = U + E,
+-- The preliminary lift, over the initial selections: one donor is a branch, and two are a dichotomy of two. The inverse odds balance them: with T = U + E,
 -- here and elsewhere, U1 × (U2 × (U2 × T1) + E2 × D) = (U1 × T2 + E1 × U2) × (T2 × U1), where D = T2 × U1 + T1 × U2.
 use Prim.Native.Nat.{ℕ, _+_, _*_, _-_, _<_}
 use mathlib.Core.Path.{_≡_, refl, ap}
@@ -7,7 +7,7 @@ use native.Mathlib.Nat.{mul-pos}
 use native.Mathlib.Omega.{arith}
 use lib.ListN.{length}
 use Rattle.probability.specs.Initial.{Initial}
-use Rattle.probability.specs.Side.{Placed, Known}
+use Rattle.probability.specs.Branch.{TakenBelow, Known}
 use Rattle.probability.proofs.Dichotomy.{join-absent, dichotomy, relabel, known-image}
 use Rattle.round.specs.Round.{liftAt, U, D, wholeSums, AreDonors}
 use Rattle.round.specs.Choice.{single, firstOdds, preliminaryBy, preliminary}
@@ -31,7 +31,7 @@ pub record Knows (ds : Donors) (ls : List Lift) : Type 0 where
   pub Y : ℕ
   pub Z : ℕ
   pub some : 0 < X
-  pub known : Known (λ xs. Placed (length ls) (preliminary ds ls xs)) (meanOverHeld ds ls) (preliminary ds ls) (length ls) X Y Z (D ds ls) (λ i. crossMeasure ds (liftAt ls i))
+  pub known : Known (λ xs. TakenBelow (length ls) (preliminary ds ls xs)) (meanOverHeld ds ls) (preliminary ds ls) (length ls) X Y Z (D ds ls) (λ i. crossMeasure ds (liftAt ls i))
 
 -- a round has no donor, or some
 pub by-donors : (C : Donors → Type 0) → C None → ((ds : Donors) → 0 < length (wholeSums ds) → C ds) → (ds : Donors) → C ds

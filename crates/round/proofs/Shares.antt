@@ -10,14 +10,14 @@ use lib.ListN.{length, getD, length-map}
 use lib.Dec.{eqb}
 use Rattle.probability.specs.Fraction.{_//_, _⊕_, _⊗_, _≈_, sum}
 use Rattle.probability.specs.Plan.{Every, Drawable, paths, weight, mass}
-use Rattle.probability.specs.Side.{Side, absent, present, join, updateOr, Placed, taken, presence}
+use Rattle.probability.specs.Branch.{Branch, absent, present, join, updateOr, TakenBelow, takenMass, presence}
 use Rattle.probability.proofs.Sums.{over-ext}
 use Rattle.probability.proofs.Fractions.{pos-left, ≈-refl, ≈-trans}
 use Rattle.probability.proofs.Masses.{weighed, mass-den, mass-hits, every-map, every-after}
-use Rattle.probability.proofs.Dichotomy.{prelim, side-shares}
+use Rattle.probability.proofs.Dichotomy.{prelim, branch-shares}
 use Rattle.round.specs.Round.{liftAt, S, D, oldWeight, newWeight, Weight, weights, weightAt, WellPosed}
 use Rattle.round.specs.Choice.{selection, Update, drawPlace, fresh, single, preliminaryBy, preliminary, planBy}
-use Rattle.round.specs.Share.{meanOverDonors, meanOverHeld, chooses, takes, SameSum, Exact, roundShare, Shares, SharesTheorem}
+use Rattle.round.specs.Share.{meanOverDonors, meanOverHeld, chooses, takenWeight, SameSum, Exact, roundShare, Shares, SharesTheorem}
 use Rattle.round.specs.declared.Donors.{Donors}
 use Rattle.round.specs.declared.Donors.the-variants.{None}
 use Rattle.round.specs.declared.Lift.{Lift}
@@ -71,10 +71,10 @@ module _ (update : Update) (x : Exact update) (ds : Donors) (ls : List Lift) (q 
   pub every-update : (i : ℕ) → i < length ls → Drawable (update ws i)
   every-update i l = x .drawable (same-sum ds ls positive) i (rw (length-weights ds ls) l)
 
-  pub every-side : (s : Side) → Placed (length ls) s → Drawable (updateOr (update ws) (fresh ls) s)
+  pub every-branch : (s : Branch) → TakenBelow (length ls) s → Drawable (updateOr (update ws) (fresh ls) s)
   unfolding updateOr
-  every-side absent f = every-fresh ls q
-  every-side (present p) f = every-after (λ i. i < length ls) (λ _. Unit {0}) p (update ws) f every-update
+  every-branch absent f = every-fresh ls q
+  every-branch (present p) f = every-after (λ i. i < length ls) (λ _. Unit {0}) p (update ws) f every-update
 
   -- old weights in, new weights out
   update-sum : (j : ℕ) → j < length ls
@@ -89,19 +89,19 @@ module _ (update : Update) (x : Exact update) (ds : Donors) (ls : List Lift) (q 
   unfolding roundShare planBy
   round-shares j l =
       let t = chooses j in
-      ≈-trans (k .known .averages .same _ (λ xs. mass t (updateOr (update ws) (fresh ls) (preliminary ds ls xs))) (λ xs f. weighed t _ (every-side (preliminary ds ls xs) f) .agree))
-      (side-shares t (update ws) (fresh ls) (length ls) (λ i v. mass-den (λ _. Unit {0}) t (update ws i) (every-update i v)) (mass-den (λ _. Unit {0}) t (fresh ls) (every-fresh ls q))
+      ≈-trans (k .known .averages .same _ (λ xs. mass t (updateOr (update ws) (fresh ls) (preliminary ds ls xs))) (λ xs f. weighed t _ (every-branch (preliminary ds ls xs) f) .agree))
+      (branch-shares t (update ws) (fresh ls) (length ls) (λ i v. mass-den (λ _. Unit {0}) t (update ws i) (every-update i v)) (mass-den (λ _. Unit {0}) t (fresh ls) (every-fresh ls q))
       (k .known) (liftAt ls j .new) (S ls) q (update-sum j l) (mass-fresh ls j l q))
 
   round-whole : meanOverHeld ds ls (λ xs. weight (λ _. true) (paths (planBy update ds ls xs))) ≈ 1 // 1
   unfolding planBy
   round-whole =
-      ≈-trans (k .known .averages .same _ (λ _. 1 // 1) (λ xs f. weighed (λ _. true) _ (every-side (preliminary ds ls xs) f) .whole)) (k .known .averages .whole)
+      ≈-trans (k .known .averages .same _ (λ _. 1 // 1) (λ xs f. weighed (λ _. true) _ (every-branch (preliminary ds ls xs) f) .whole)) (k .known .averages .whole)
 
-  takes-mass : (i : ℕ) (s : Side) → Placed (length ls) s → takes i s ≈ taken i s
-  unfolding taken
-  takes-mass i absent f = ≈-refl (omega arith)
-  takes-mass i (present p) f = weighed (λ a. eqb a i) p (every-map {P = λ i. i < length ls} {Q = λ _. Unit {0}} (λ _ _. tt) p f) .agree
+  taken-mass : (i : ℕ) (s : Branch) → TakenBelow (length ls) s → takenWeight i s ≈ takenMass i s
+  unfolding takenMass
+  taken-mass i absent f = ≈-refl (omega arith)
+  taken-mass i (present p) f = weighed (λ a. eqb a i) p (every-map {P = λ i. i < length ls} {Q = λ _. Unit {0}} (λ _ _. tt) p f) .agree
 
   all-shares : Shares update ds ls
   all-shares =
@@ -110,7 +110,7 @@ module _ (update : Update) (x : Exact update) (ds : Donors) (ls : List Lift) (q 
         shares = round-shares;
         some = λ _. let e = known .some in pos-left (meanOverHeld ds ls (λ xs. presence (preliminary ds ls xs) // 1) .num) (k .Z) (rw (e .cross) (mul-pos (k .some) (e .left)));
         preliminaries = λ _ i l. rw (old-cross ds ls (liftAt ls i))
-            (≈-trans (known .averages .same _ (λ xs. taken i (preliminary ds ls xs)) (λ xs f. takes-mass i (preliminary ds ls xs) f)) (prelim known q i l));
+            (≈-trans (known .averages .same _ (λ xs. takenMass i (preliminary ds ls xs)) (λ xs f. taken-mass i (preliminary ds ls xs) f)) (prelim known q i l));
         whole = round-whole;
       }
 

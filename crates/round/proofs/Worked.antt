@@ -11,7 +11,7 @@ use Rattle.probability.specs.Plan.{bind, paths, weight}
 use Rattle.draw.specs.Draw.{drawFrom}
 use Rattle.draw.specs.Run.{run}
 use Rattle.round.specs.Round.{S, U, D, oldWeight, newWeight, weights, weightAt, G}
-use Rattle.probability.specs.Side.{join, updateOr}
+use Rattle.probability.specs.Branch.{join, updateOr}
 use Rattle.round.specs.Choice.{drawPlace, firstOdds, single, preliminaryBy, stayOr, keyfitz, planBy, outcome}
 use Rattle.round.specs.Share.{meanOverInitial, meanOverDonors, roundShare}
 use Rattle.round.specs.Keep.{roundKept, Coupling}

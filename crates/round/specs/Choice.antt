@@ -7,7 +7,7 @@ use lib.ListN.{getD}
 use Rattle.probability.specs.Interval.{pick}
 use Rattle.probability.specs.Initial.{Initial, here, elsewhere}
 use Rattle.probability.specs.Plan.{Plan, done, draw}
-use Rattle.probability.specs.Side.{Side, absent, present, join, updateOr}
+use Rattle.probability.specs.Branch.{Branch, absent, present, join, updateOr}
 use Rattle.draw.specs.Draw.{largest}
 use Rattle.draw.specs.Run.{Run, finished, short, run}
 use Rattle.round.specs.Round.{S, U, D, Weight, weights, weightAt, growth, G}
@@ -38,7 +38,7 @@ fresh ls = drawPlace (S ls) (map (λ l. l .new) ls) false
 -- ---- the preliminary lift, from where the donors' held lifts are
 
 -- a donor's held lift alone: "One held lift here: it is preliminary."
-unfoldable pub single : Initial → Side
+unfoldable pub single : Initial → Branch
 single elsewhere = absent
 single (here i) = present (done i)
 
@@ -53,11 +53,11 @@ firstOdds (One T) ls = 0
 firstOdds (Two T₁ T₂) ls = U 2 ls * T₁
 
 -- "Two held lifts here: draw v below" a bound. "If v is less than" the odds, "donor 1's lift is preliminary, else donor 2's."
-unfoldable pub preliminaryBy : (bound odds : ℕ) → List Initial → Side
+unfoldable pub preliminaryBy : (bound odds : ℕ) → List Initial → Branch
 preliminaryBy bound odds xs = join bound odds (single (initialAt xs 0)) (single (initialAt xs 1))
 
 -- "draw v below D. If v is less than U2 × T1"
-abbrev pub preliminary : Donors → List Lift → List Initial → Side
+abbrev pub preliminary : Donors → List Lift → List Initial → Branch
 preliminary ds ls xs = preliminaryBy (D ds ls) (firstOdds ds ls) xs
 
 -- ---- its update
@@ -91,14 +91,14 @@ plan ds ls xs = planBy keyfitz ds ls xs
 -- ---- the outcome
 
 -- whether a held lift is at place i
-abbrev pub isAt : Initial → ℕ → Bool
-isAt (here a) i = eqb a i
-isAt elsewhere i = false
+abbrev pub isHere : Initial → ℕ → Bool
+isHere (here a) i = eqb a i
+isHere elsewhere i = false
 
 -- whether the lift at place i is one of the held lifts
 abbrev pub isHeld : List Initial → ℕ → Bool
 isHeld [] i = false
-isHeld (x ∷ xs) i = isAt x i || isHeld xs i
+isHeld (x ∷ xs) i = isHere x i || isHeld xs i
 
 -- "Outcome: 1 if the choice was held, else 2 if a preliminary lift was dropped, else 3 (fresh)."
 unfoldable pub outcome : (held dropped : Bool) → ℕ
@@ -112,7 +112,7 @@ placed (finished vs i next) = LiftAt i next
 placed short = Ended
 
 -- the answer with the preliminary lift, from the random words ws, read from a position on
-abbrev pub proposed : List ℕ → ℕ → Side → Proposed
+abbrev pub proposed : List ℕ → ℕ → Branch → Proposed
 proposed ws at absent = NoLift
 proposed ws at (present p) = placed (run largest ws at p)
 

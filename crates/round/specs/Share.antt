@@ -9,7 +9,7 @@ use Rattle.probability.specs.Sum.{total}
 use Rattle.probability.specs.Initial.{Initial, here, elsewhere}
 use Rattle.probability.specs.Fraction.{Fraction, _//_, _⊕_, _⊗_, _≈_, sum}
 use Rattle.probability.specs.Plan.{Drawable, paths, weight, mass}
-use Rattle.probability.specs.Side.{Side, absent, present, presence}
+use Rattle.probability.specs.Branch.{Branch, absent, present, presence}
 use Rattle.round.specs.Round.{liftAt, S, measureFrom, U, D, oldWeight, Weight, weightAt, wholeSums, WellPosed}
 use Rattle.round.specs.Choice.{Selection, Update, preliminary, planBy}
 use Rattle.round.specs.declared.Donors.{Donors}
@@ -67,9 +67,9 @@ unfoldable pub roundShare : Update → Donors → List Lift → ℕ → Fraction
 roundShare update ds ls j = meanOverHeld ds ls (λ xs. weight (chooses j) (paths (planBy update ds ls xs)))
 
 -- the weight of the paths on which the lift at place i is taken
-abbrev pub takes : ℕ → Side → Fraction
-takes i absent = 0 // 1
-takes i (present p) = weight (λ a. eqb a i) (paths p)
+abbrev pub takenWeight : ℕ → Branch → Fraction
+takenWeight i absent = 0 // 1
+takenWeight i (present p) = weight (λ a. eqb a i) (paths p)
 
 -- "For each lift of the round, b = 0 included, the ways that have it as their lift weigh together exactly b over S."
 pub record Shares (update : Update) (ds : Donors) (ls : List Lift) : Type 0 where
@@ -78,7 +78,7 @@ pub record Shares (update : Update) (ds : Donors) (ls : List Lift) : Type 0 wher
   -- its old weight over D × S
   pub some : 0 < D ds ls → 0 < meanOverHeld ds ls (λ xs. presence (preliminary ds ls xs) // 1) .num
   pub preliminaries : 0 < D ds ls → (i : ℕ) → i < length ls
-      → meanOverHeld ds ls (λ xs. takes i (preliminary ds ls xs))
+      → meanOverHeld ds ls (λ xs. takenWeight i (preliminary ds ls xs))
       ≈ meanOverHeld ds ls (λ xs. presence (preliminary ds ls xs) // 1) ⊗ oldWeight ds ls (liftAt ls i) // (D ds ls * S ls)
   -- all paths weigh 1 together
   pub whole : meanOverHeld ds ls (λ xs. weight (λ _. true) (paths (planBy update ds ls xs))) ≈ 1 // 1

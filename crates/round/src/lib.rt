@@ -10,7 +10,7 @@ ghost use Rattle.probability.specs.Plan.{done, draw as drawOf};
 ghost use Rattle.draw.specs.Draw.{largest};
 ghost use Rattle.draw.specs.Run.{run};
 ghost use Rattle.round.specs.Round.{growth, G};
-ghost use Rattle.round.specs.Choice.{drawPlace, preliminaryBy, keyfitz, isAt, isHeld, outcome as outcomeOf, placed, proposed, answer, selected};
+ghost use Rattle.round.specs.Choice.{drawPlace, preliminaryBy, keyfitz, isHere, isHeld, outcome as outcomeOf, placed, proposed, answer, selected};
 ghost use Rattle.round.specs.Rows.{rowLifts, initialOf, initials, Callable, HasSums, scaled, WeightsFit, Balanced, Contested};
 use draw::Drawn;
 use picking::pick_lift;
@@ -94,8 +94,8 @@ const WHOLLY: Scale = Scale {
 };
 
 // Whether a held lift is at a place.
-fn is_at(seat: Seat, place: usize) -> bool
-    ensures { λ r. ⌜ r ≡ isAt (initialOf seat) place ⌝ }
+fn is_here(seat: Seat, place: usize) -> bool
+    ensures { λ r. ⌜ r ≡ isHere (initialOf seat) place ⌝ }
 {
     match seat {
         Seat::Here(i) => i == place,
@@ -109,10 +109,10 @@ pub fn is_held(held: Held, place: usize) -> bool
 {
     let first = held.first;
     let second = held.second;
-    if is_at(first, place) {
+    if is_here(first, place) {
         return true;
     }
-    is_at(second, place)
+    is_here(second, place)
 }
 
 // The document's outcome of a choice.

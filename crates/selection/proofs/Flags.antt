@@ -10,7 +10,7 @@ use lib.ListN.{getD}
 use borrow.Author.Tests.{eqb-true, eq-eqb, lt-ltb}
 use Rattle.probability.specs.Sum.{totalBy, indicator}
 use Rattle.probability.proofs.Lists.{All, all-none, all-keep, all-getD}
-use Rattle.round.specs.Choice.{isAt, isHeld}
+use Rattle.round.specs.Choice.{isHere, isHeld}
 use Rattle.probability.specs.Among.{among}
 use Rattle.probability.specs.Initial.{Initial, here, elsewhere}
 use Rattle.probability.proofs.Tests.{eqb-comm}
@@ -52,18 +52,18 @@ none-holds t (l ∷ ls) e zero = go (holds t l) (omega (arith, holds-counts t l)
 none-holds t (l ∷ ls) e (suc i) = none-holds t ls (omega arith) i
 
 -- where at most one lift is, its place is found
-found : (t : ℕ) (ls : List Lift) → heldCount t ls ≤ 1 → (i : ℕ) → isAt (heldAt t ls) i ≡ holds t (getD ls i noLift)
+found : (t : ℕ) (ls : List Lift) → heldCount t ls ≤ 1 → (i : ℕ) → isHere (heldAt t ls) i ≡ holds t (getD ls i noLift)
 unfolding heldAt totalBy
 found t [] h i = refl
 found t (l ∷ ls) h zero = go (holds t l) (heldAt t ls)
   where
-    go : (x : Bool) (p : Initial) → isAt (cond x (here 0) (further p)) 0 ≡ x
+    go : (x : Bool) (p : Initial) → isHere (cond x (here 0) (further p)) 0 ≡ x
     go true p = refl
     go false (here j) = eqb·suc-zero j
     go false elsewhere = refl
 found t (l ∷ ls) h (suc i) = go (holds t l) refl (heldAt t ls) (found t ls (omega arith) i)
   where
-    go : (x : Bool) → holds t l ≡ x → (p : Initial) → isAt p i ≡ holds t (getD ls i noLift) → isAt (cond x (here 0) (further p)) (suc i) ≡ holds t (getD ls i noLift)
+    go : (x : Bool) → holds t l ≡ x → (p : Initial) → isHere p i ≡ holds t (getD ls i noLift) → isHere (cond x (here 0) (further p)) (suc i) ≡ holds t (getD ls i noLift)
     go true e p q = eqb·zero-suc i ∙ sym (none-holds t ls (omega (arith, holds-counts t l, ap indicator e)) i)
     go false e (here j) q = eqb·suc-suc j i ∙ q
     go false e elsewhere q = q

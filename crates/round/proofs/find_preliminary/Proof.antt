@@ -1,5 +1,5 @@
 -- `round::find_preliminary` meets its contract: by where both held lifts are. Assumes nothing.
-use Rattle.probability.specs.Side.{join}
+use Rattle.probability.specs.Branch.{join}
 use Rattle.draw.specs.Run.{run}
 use Rattle.round.specs.Choice.{single, preliminaryBy}
 use borrow.Author.Needs.{needs}
