@@ -68,8 +68,8 @@ unfolding over total
 Σ-pick [] f = refl
 Σ-pick (w ∷ ws) f =
     Σ-cut w (total ws) (λ q. f (pick (w ∷ ws) q))
-    ∙ ap₂ ◌+◌ (over_ext _ _ w (λ q l. ap f (pick_here w ws q l)) ∙ Σ-const w (f 0))
-    (over_ext _ _ (total ws) (λ q l. rw (pick_beyond w ws (w + q) (omega arith), add-sub_cancel_left)) ∙ Σ-pick ws (λ i. f (suc i)))
+    ∙ ap₂ ◌+◌ (over_ext ◌+◌ 0 w (λ q l. ap f (pick_here w ws q l)) ∙ Σ-const w (f 0))
+    (over_ext ◌+◌ 0 (total ws) {f = λ q. f (pick (w ∷ ws) (w + q))} {g = λ q. f (suc (pick ws q))} (λ q l. rw (pick_beyond w ws (w + q) (omega arith), add-sub_cancel_left)) ∙ Σ-pick ws (λ i. f (suc i)))
 
 pub pick_lt : (ws : List ℕ) (q : ℕ) → q < total ws → pick ws q < length ws
 unfolding total pick

@@ -61,9 +61,9 @@ pub Σ-cut : (m n : ℕ) (f : ℕ → ℕ) → Σ (m + n) f ≡ Σ m f + Σ n (�
 pub Σ-one : (n j : ℕ) (f : ℕ → ℕ) → j < n → Σ n (λ i. f i * indicator (eqb i j)) ≡ f j
 unfolding over
 Σ-one zero j f h = omega arith
-Σ-one (suc n) zero f h = ap₂ ◌+◌ (mul-one (f 0)) (over_ext _ _ n (λ i l. simp (eqb-suc-zero, mul-zero)) ∙ Σ-const n 0) ∙ omega arith
+Σ-one (suc n) zero f h = ap₂ ◌+◌ (mul-one (f 0)) (over_ext ◌+◌ 0 n {f = λ i. f (suc i) * indicator (eqb (suc i) 0)} {g = λ _. 0} (λ i l. simp (eqb-suc-zero, mul-zero)) ∙ Σ-const n 0) ∙ omega arith
 Σ-one (suc n) (suc j) f h =
-    ap₂ ◌+◌ (simp (eqb-zero-suc, mul-zero)) (over_ext _ _ n (λ i l. simp eqb-suc-suc) ∙ Σ-one n j (λ i. f (suc i)) (omega arith)) ∙ zero-add _
+    ap₂ ◌+◌ (simp (eqb-zero-suc, mul-zero)) (over_ext ◌+◌ 0 n {f = λ i. f (suc i) * indicator (eqb (suc i) (suc j))} {g = λ i. f (suc i) * indicator (eqb i j)} (λ i l. simp eqb-suc-suc) ∙ Σ-one n j (λ i. f (suc i)) (omega arith)) ∙ zero-add _
 
 -- of the numbers below n one is j
 pub count_one : (n j : ℕ) → j < n → count n (λ i. eqb i j) ≡ 1
@@ -135,8 +135,8 @@ map_le f d xs i l = rw (Σ-map f d xs) at (Σ-term (length xs) i (λ j. f (get_o
 cond_one : (n k x : ℕ) → k < n → Σ n (λ j. cond (eqb k j) x 0) ≡ x
 unfolding over
 cond_one zero k x h = omega arith
-cond_one (suc n) zero x h = ap (λ t. x + t) (over_ext _ _ n (λ i l. rw (eqb-zero-suc i)) ∙ Σ-const n 0) ∙ omega arith
-cond_one (suc n) (suc k) x h = ap₂ ◌+◌ (rw (eqb-suc-zero k)) (over_ext _ _ n (λ i l. rw (eqb-suc-suc k i)) ∙ cond_one n k x (omega arith)) ∙ zero-add x
+cond_one (suc n) zero x h = ap (λ t. x + t) (over_ext ◌+◌ 0 n {f = λ j. cond (eqb zero (suc j)) x 0} {g = λ _. 0} (λ i l. rw (eqb-zero-suc i)) ∙ Σ-const n 0) ∙ omega arith
+cond_one (suc n) (suc k) x h = ap₂ ◌+◌ (rw (eqb-suc-zero k)) (over_ext ◌+◌ 0 n {f = λ i. cond (eqb (suc k) (suc i)) x 0} {g = λ i. cond (eqb k i) x 0} (λ i l. rw (eqb-suc-suc k i)) ∙ cond_one n k x (omega arith)) ∙ zero-add x
 
 -- every key below n: the sums by key make up the whole
 pub σ_total_by : {A : Type 0} (key value : A → ℕ) (d : A) (n : ℕ) (xs : List A) → ((i : ℕ) → i < length xs → key (get_or xs i d) < n)
