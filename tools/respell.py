@@ -9,6 +9,7 @@ would then have the name of a definition ends in _lem.
 """
 
 import glob
+import os
 import re
 
 PLACE = re.compile(r"(?<![\w'◌·#«-])([A-Za-zΣμ][\w'₀-₉-]*)(?![\w'◌·»₀-₉-])")
@@ -70,9 +71,16 @@ def tables(texts):
     return table, behind
 
 
+def of_the_library(text):
+    """The names that a file takes from the library."""
+    own = "|".join(sorted(os.listdir("crates")))
+    lines = [line for line in text.split("\n") if re.match(r"(?:pub )?use (?!Rattle\.(?:" + own + r")\.)", line)]
+    return {n.split(" as ")[-1].strip() for line in lines for names in re.findall(r"\{(.*)\}", line) for n in names.split(",")}
+
+
 def turned(path, text, table, behind):
     # in the proof of a function, a name with a dash that the file declares is that of a goal
-    own = set() if lemma_file(path) else {n for n in declared(text) if "-" in n}
+    own = of_the_library(text) | (set() if lemma_file(path) else {n for n in declared(text) if "-" in n})
     lines = []
     for line in text.split("\n"):
         definitions = re.match(r"\s*(?:ghost )?(?:pub )?use .*\.specs\.", line)

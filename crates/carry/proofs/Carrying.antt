@@ -1,7 +1,7 @@
 -- Next quarter's sheet, run at once: each round is its own only donor and changes nothing, so its held lift stays and nothing is drawn.
 use Prim.Native.Nat.{ℕ, zero, suc, ◌+◌, ◌*◌, ◌≤◌, ◌<◌}
 use mathlib.Core.Path.{◌≡◌, refl, sym, ap, ap₂, ◌∙◌}
-use mathlib.Core.Bool.{Bool, true, false, or_false, or-true, false≢true}
+use mathlib.Core.Bool.{Bool, true, false, or-false, or-true, false≢true}
 use mathlib.Core.List.Memᴰ
 use mathlib.Core.List.{List, [], ◌∷◌, map}
 use native.Mathlib.Nat.{sub_self}
@@ -45,7 +45,7 @@ carried_at held (u ∷ us) (suc i) h = carried_at held us i h
 
 -- the held lift of one donor
 only : (x : Initial) (i : ℕ) → is_held (x ∷ []) i ≡ true → x ≡ here i
-only (here j) i e = ap here (eqb-true j i (sym (or_false (eqb j i)) ∙ e))
+only (here j) i e = ap here (eqb-true j i (sym (or-false (eqb j i)) ∙ e))
 only elsewhere i e = absurd (false≢true e)
 
 module _ (ls : List Lift) (cs : List Choice) (fit : Fit (next_lifts cs ls)) {r : ℕ} (used : Used ls r) (i : ℕ) (a : Measured ls r (lift_in_round r ls i))

@@ -1,7 +1,7 @@
 -- Digits read one by one: clamping after each digit is clamping the number. The laws of the loop over digits, and of a number's ways out.
 use Prim.Native.Nat.{ℕ, suc, ◌+◌, ◌*◌, ◌-◌, ◌≤◌, ◌<◌}
 use mathlib.Core.Path.{◌≡◌, refl, sym, ap, ap₂, ◌∙◌}
-use mathlib.Core.Bool.{Bool, true, false, cond, not, and_false}
+use mathlib.Core.Bool.{Bool, true, false, cond, not, and-false}
 use mathlib.Core.List.{List, [], ◌∷◌}
 use native.Mathlib.Numerals.{add-one}
 use native.Mathlib.Omega.{arith}
@@ -129,7 +129,7 @@ module _ (limit start : ℕ) (text : List ℕ) {d : Digits} (e : d ≡ digits_at
       let v = value (leading (drop start text)) in
       let q : limit < clamp v = rw (← ap (λ x. x.value) e) h in
       let l : leb v limit ≡ false = lt-leb v limit (go v q) in
-      rw (l, and_false (all_digits (leading (drop start text))), and_false (not (empty (leading (drop start text)))))
+      rw (l, and-false (all_digits (leading (drop start text))), and-false (not (empty (leading (drop start text)))))
     where
       go : (v : ℕ) → limit < clamp v → limit < v
       go v q = split (ltb cap v) refl

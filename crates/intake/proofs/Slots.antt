@@ -1,7 +1,7 @@
 -- The loop over the lines: a slot for each lift holds the measure of its line, and the lines left decide the outcome.
 use Prim.Native.Nat.{ℕ, zero, suc, ◌+◌, ◌-◌, ◌^◌, ◌≤◌, ◌<◌}
 use mathlib.Core.Path.{◌≡◌, refl, sym, ap, ap₂, ◌∙◌}
-use mathlib.Core.Bool.{Bool, true, false, cond, not, ◌||◌, and_false}
+use mathlib.Core.Bool.{Bool, true, false, cond, not, ◌||◌, and-false}
 use mathlib.Core.List.{List, [], ◌∷◌, ◌++◌, map, append_assoc, append-nil}
 use mathlib.Core.Option.{Option, none, some}
 use native.Mathlib.Omega.{arith}
@@ -198,7 +198,7 @@ module _ {text ns measures : List ℕ} {start i : ℕ} (d : LinesKept text ns me
           pub kept_had : (get_or measures k 0 ≡ 0 → ⊥) → LinesAnswered ns (lines text) (Faulty (AboutLift (i + 1))) measures
           kept_had o =
               let a : among n d.had ≡ true = d.heard n ∙ ap not (ne_eqb (slot d.done n) 0 (λ z. o (value_at ∙ z))) in
-              sym (rw (a, and_false (among n ns)) at turned)
+              sym (rw (a, and-false (among n ns)) at turned)
 
           pub kept_turn : LiftNumbers ns → get_or measures k 0 ≡ 0 → {m : ℕ} {measures' : List ℕ} → m ≡ hundreds c → measures' ≡ set measures k (m + 1) → LinesKept text ns measures' next (i + 1)
           kept_turn r o {m} {measures'} u v =

@@ -1,7 +1,7 @@
 -- A line read field by field is the line split off and then read: digits belong to the line, what ends them is a comma, an ending, or no digit.
 use Prim.Native.Nat.{ℕ, suc, ◌+◌, ◌-◌, ◌≤◌, ◌<◌}
 use mathlib.Core.Path.{◌≡◌, refl, sym, ap, ◌∙◌}
-use mathlib.Core.Bool.{Bool, true, false, cond, not, ◌&&◌, and_false, false≢true}
+use mathlib.Core.Bool.{Bool, true, false, cond, not, ◌&&◌, and-false, false≢true}
 use mathlib.Core.Logic.{◌⊎◌, inl, inr}
 use mathlib.Core.List.{List, [], ◌∷◌, ◌++◌, append-nil}
 use native.Mathlib.Nat.{add-zero}
@@ -113,11 +113,11 @@ before_foreign (b ∷ bs) h = go (eqb b comma)
 digits_foreign : (ds : List ℕ) (b : ℕ) (bs : List ℕ) → is_digit b ≡ false → all_digits (ds ++ b ∷ bs) ≡ false
 unfolding all_digits
 digits_foreign [] b bs h = rw h
-digits_foreign (d ∷ ds) b bs h = rw (digits_foreign ds b bs h) (and_false (is_digit d))
+digits_foreign (d ∷ ds) b bs h = rw (digits_foreign ds b bs h) (and-false (is_digit d))
 
 number_foreign : (limit : ℕ) (ds es : List ℕ) → foreign es ≡ true → is_number limit (ds ++ es) ≡ cond (empty es) (is_number limit ds) false
 number_foreign limit ds [] h = rw (append-nil ds)
-number_foreign limit ds (e ∷ es) h = rw (digits_foreign ds e es (not-true (is_digit e) h)) (and_false (not (empty (ds ++ e ∷ es))))
+number_foreign limit ds (e ∷ es) h = rw (digits_foreign ds e es (not-true (is_digit e) h)) (and-false (not (empty (ds ++ e ∷ es))))
 
 -- ---- digits belong to the line
 
@@ -191,7 +191,7 @@ no_lift_lem l h = rw h
 
 no_count : (l : List ℕ) → is_number largest_count (behind_comma l) ≡ false → count_line l ≡ malformed
 unfolding count_line
-no_count l h = rw (h, and_false (is_number largest_lift (before_comma l)))
+no_count l h = rw (h, and-false (is_number largest_lift (before_comma l)))
 
 cond_false : (t : Bool) → cond t false false ≡ false
 cond_false true = refl
@@ -376,10 +376,10 @@ module _ (text : List ℕ) (i : ℕ) where
         pub ending_cr_lem : length text ≤ i + 1 → Nothing ≡ ending_at text i
         ending_cr_lem l =
             let k : drop (suc i) text ≡ [] = drop_of_length-le text {i = suc i} (omega arith) in
-            unended (no_end _ _ n (rw k (and_false (eqb (get_or text i 0) CR))))
+            unended (no_end _ _ n (rw k (and-false (eqb (get_or text i 0) CR))))
 
         pub ending_cr_other : (get_or text (i + 1) 0 ≡ LF → ⊥) → Nothing ≡ ending_at text i
-        ending_cr_other l = unended (no_end _ _ n (rw (after, ne_eqb (get_or text (i + 1) 0) LF l) (and_false (eqb (get_or text i 0) CR))))
+        ending_cr_other l = unended (no_end _ _ n (rw (after, ne_eqb (get_or text (i + 1) 0) LF l) (and-false (eqb (get_or text i 0) CR))))
 
         pub ending_crlf : get_or text (i + 1) 0 ≡ LF → At (i + 2) ≡ ending_at text i
         ending_crlf l = ended (ends_crlf _ _ c (after ∙ l))

@@ -1,7 +1,7 @@
 -- The choices kept by round are next quarter's held marks: a lift of round r is chosen exactly if its number is the one kept for r.
 use Prim.Native.Nat.{ℕ, suc, ◌+◌, ◌<◌}
 use mathlib.Core.Path.{◌≡◌, refl, sym, ap, ◌∙◌}
-use mathlib.Core.Bool.{Bool, true, false, ◌||◌, or_false}
+use mathlib.Core.Bool.{Bool, true, false, ◌||◌, or-false}
 use mathlib.Core.List.Memᴰ
 use mathlib.Core.List.{List, ◌∷◌, Memᴰ}
 use mathlib.Core.Logic.{◌⊎◌, inl, inr}
@@ -73,7 +73,7 @@ module _ {ls : List Lift} (f : Fit ls) {l : Lift} (i : Memᴰ l ls) where
           let z : r ≡ l.new.round = eqb-true r l.new.round h in
           let first : get_or (by_round (λ c. c.number) (c ∷ cs) xs) l.new.round 0 ≡ c.number = rw (← z) (by_round_first (λ c. c.number) c cs d.2 xs (omega (arith, d.1.upto))) in
           ap (λ n. eqb n l.number) first
-          ∙ sym (ap (λ b. eqb c.number l.number || b) (unchosen rest v (suc r) d.2 (omega arith)) ∙ or_false (eqb c.number l.number))
+          ∙ sym (ap (λ b. eqb c.number l.number || b) (unchosen rest v (suc r) d.2 (omega arith)) ∙ or-false (eqb c.number l.number))
       go false h (inl y) ih = absurd (eqb-false r l.new.round h (sym y))
       go false h (inr n) ih = rw (other mine (eqb-false r l.new.round h)) (ih n)
 

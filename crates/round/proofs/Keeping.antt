@@ -1,7 +1,7 @@
 -- Keeping: a coupling keeps no more than the smaller weights, and Keyfitz's update is one that keeps them all, as each lift does.
 use Prim.Native.Nat.{ℕ, ◌+◌, ◌*◌, ◌-◌, ◌≤◌, ◌<◌, min}
 use mathlib.Core.Path.{◌≡◌, refl, sym, ap, ◌∙◌, fun_ext}
-use mathlib.Core.Bool.{Bool, true, false, ◌||◌, or_false}
+use mathlib.Core.Bool.{Bool, true, false, ◌||◌, or-false}
 use mathlib.Core.List.{List, [], ◌∷◌, map}
 use native.Mathlib.Nat.{mul-pos, mul-le-mul_right, min-eq_left, add-zero}
 use native.Mathlib.Omega.{arith}
@@ -114,7 +114,7 @@ module _ (update : Update) (x : Exact update) (y : Staying update) (T : ℕ) (ls
       → weight (λ s. is_held (here i ∷ []) s.place) (paths (plan_by update (One T) ls (here i ∷ []))) ≈ mass (chooses i) (update ws i)
   unfolding plan_by preliminary_by branch_of join update_or bind
   keeps_here i l =
-      rw (fun_ext {f = λ (s : Selection). eqb i s.place || false} {g = chooses i} (λ s. or_false (eqb i s.place) ∙ eqb_comm i s.place))
+      rw (fun_ext {f = λ (s : Selection). eqb i s.place || false} {g = chooses i} (λ s. or-false (eqb i s.place) ∙ eqb_comm i s.place))
       (weighed (chooses i) (update ws i) (x.drawable same i (rw (length_weights (One T) ls) l))).agree
 
   -- the old measure over T is the old weight over D × S

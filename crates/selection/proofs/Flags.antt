@@ -1,7 +1,7 @@
 -- Where lifts fit, the marks of a round are the held lifts that its choice starts from.
 use Prim.Native.Nat.{ℕ, zero, suc, ◌≤◌}
 use mathlib.Core.Path.{◌≡◌, refl, sym, ap, ap₂, ◌∙◌}
-use mathlib.Core.Bool.{Bool, true, false, cond, ◌&&◌, ◌||◌, or-true, and_false, and-or_distrib_left, false≢true}
+use mathlib.Core.Bool.{Bool, true, false, cond, ◌&&◌, ◌||◌, or-true, and-false, and-or_distrib_left, false≢true}
 use mathlib.Core.List.{List, [], ◌∷◌, map, Memᴰ}
 use native.Mathlib.Nat.{le_trans}
 use native.Mathlib.Omega.{arith}
@@ -76,7 +76,7 @@ both false c h = refl
 marks_among : (ls : List Lift) → ((t : ℕ) → held_count t ls ≤ 1) → (i : ℕ) (ds : List ℕ)
     → is_held (map (λ t. held_at t ls) ds) i ≡ ((get_or ls i no_lift).held && among (get_or ls i no_lift).old.round ds)
 unfolding among
-marks_among ls h i [] = sym (and_false (get_or ls i no_lift).held)
+marks_among ls h i [] = sym (and-false (get_or ls i no_lift).held)
 marks_among ls h i (d ∷ ds) =
     let l = get_or ls i no_lift in
     ap₂ ◌||◌ (found d ls (h d) i ∙ ap (λ x. l.held && x) (eqb_comm l.old.round d)) (marks_among ls h i ds)

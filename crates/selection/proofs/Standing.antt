@@ -1,7 +1,7 @@
 -- Where the lift that a selection names stands in a new round, and the mean over a donor's lifts sorted by that.
 use Prim.Native.Nat.{ℕ, zero, suc, ◌+◌, ◌-◌, ◌*◌, ◌≤◌, ◌<◌}
 use mathlib.Core.Path.{◌≡◌, refl, sym, ap, ap₂, ◌∙◌}
-use mathlib.Core.Bool.{Bool, true, false, cond, ◌&&◌, ◌||◌, and_false}
+use mathlib.Core.Bool.{Bool, true, false, cond, ◌&&◌, ◌||◌, and-false}
 use mathlib.Core.List.{List, [], ◌∷◌, ◌++◌, map}
 use native.Mathlib.Nat.{mul-pos}
 use native.Mathlib.Omega.{arith}
@@ -58,7 +58,7 @@ held_at_drop d r k m l (v ∷ vs) h = go (eqb v.new.round r) (held_at_drop d r k
   where
     same : (y : Bool) → eqb v.old.round d ≡ y → (names (k ++ l ∷ m) v.number && y) ≡ (names (k ++ m) v.number && y)
     same true e = ap (λ x. x && true) (names_drop k m l v.number (λ z. h 0 (omega arith) z (eqb-true v.old.round d e)))
-    same false e = and_false (names (k ++ l ∷ m) v.number) ∙ sym (and_false (names (k ++ m) v.number))
+    same false e = and-false (names (k ++ l ∷ m) v.number) ∙ sym (and-false (names (k ++ m) v.number))
 
     go : (x : Bool) → held_at d (marked (k ++ l ∷ m) (of_round r vs)) ≡ held_at d (marked (k ++ m) (of_round r vs))
         → held_at d (marked (k ++ l ∷ m) (cond x (v ∷ of_round r vs) (of_round r vs))) ≡ held_at d (marked (k ++ m) (cond x (v ∷ of_round r vs) (of_round r vs)))

@@ -146,7 +146,7 @@ lift_read s w v u ws a l b old c new known t =
 -- words that pass are the words of lifts
 parse : (s : ScanState) (i : ℕ) (ws : List ℕ) → Free s.kind → read_from s i ws ≡ sound → Parsed s ws
 parse s i [] o h = absurd (not_ended s i (ne_eqb s.kind end_kind (λ e. false≢true (rw e at (o lift_kind)))) h)
-parse s i (w ∷ []) o h = by_kind s i w [] o h (λ a l g. absurd (not_ended _ _ refl g)) (parse _ _ [] (λ j. refl))
+parse s i (w ∷ []) o h = by_kind s i w [] o h (λ a l g. absurd (not_ended _ _ refl g)) (parse (state held_kind s.number s.old s.lifts) _ [] (λ j. refl))
 parse s i (w ∷ v ∷ []) o h =
     by_kind s i w (v ∷ []) o h
     (λ a l g. let f = first_passes _ _ v [] g in let b = eqb-true (kind v) old_kind f.0.order in absurd (not_ended _ _ refl (rw b at f.1)))
@@ -232,7 +232,7 @@ lifts_pass : (s : ScanState) (i e : ℕ) (ls : List Lift) → Free s.kind → Al
     → read_from s i (words_then ls (word end_kind e ∷ [])) ≡ sound
 unfolding read_from fault words_then AllWellFormed
 lifts_pass s i e [] o p c f = rw (kind_word end_kind e (omega arith), payload_word end_kind e (omega arith), o end_kind, eq-eqb e s.lifts (omega arith), le-ltb most_lifts e f)
-lifts_pass s i e (l ∷ ls) o p c f = lift_passes s i _ l o p.0 (λ k j o. lifts_pass _ j e ls o p.1 (omega arith) f)
+lifts_pass s i e (l ∷ ls) o p c f = lift_passes s i _ l o p.0 (λ k j o. lifts_pass (state k l.number (place_word old_kind l.old) (s.lifts + 1)) j e ls o p.1 (omega arith) f)
 
 -- a held mark is read back, before a word that is none
 mark_back : (held : Bool) (ws : List ℕ) → eqb (kind (get_or ws 0 0)) held_kind ≡ false

@@ -1,7 +1,7 @@
 -- The donors of a round as bits: joining the bits of its lifts gives those of its donors, and counting them counts the donors.
 use Prim.Native.Nat.{ℕ, ◌+◌, ◌-◌, ◌*◌, ◌/◌, ◌%◌, ◌≤◌, ◌<◌}
 use mathlib.Core.Path.{◌≡◌, refl, sym, ap, ◌∙◌}
-use mathlib.Core.Bool.{Bool, true, false, cond, ◌&&◌, ◌||◌, and_false}
+use mathlib.Core.Bool.{Bool, true, false, cond, ◌&&◌, ◌||◌, and-false}
 use mathlib.Core.List.{List, [], ◌∷◌}
 use native.Mathlib.Nat.{zero-add}
 use native.Mathlib.Omega.{arith}
@@ -100,7 +100,7 @@ sends_unnamed t r (l ∷ ls) h = go (eqb l.new.round r) h (sends_unnamed t r ls)
     go : (p : Bool) → cond p 1 0 + lift_count New r ls ≡ 0 → (lift_count New r ls ≡ 0 → sends t r ls ≡ false)
         → (eqb l.old.round t && (p && ltb 0 l.old.measure)) || sends t r ls ≡ false
     go true k ih = absurd (omega arith)
-    go false k ih = rw (and_false (eqb l.old.round t)) (ih (omega arith))
+    go false k ih = rw (and-false (eqb l.old.round t)) (ih (omega arith))
 
 -- so refusal 10 goes by the count of donors alone
 pub too_many_donors_count : (ls : List Lift) (r : ℕ) → too_many_donors ls r ≡ leb 3 (length (donors r ls))
@@ -120,7 +120,7 @@ pub from_nowhere : (r : ℕ) (l : Lift) → PlaceWellFormed old_kind l.old → b
 from_nowhere r l p = go (eqb l.old.round 0) refl
   where
     go : (t : Bool) → eqb l.old.round 0 ≡ t → t && (eqb l.new.round r && ltb 0 l.old.measure) ≡ false
-    go true e = rw (le-ltb 0 l.old.measure (omega (arith, p.nowhere (eqb-true l.old.round 0 e)))) (and_false (eqb l.new.round r))
+    go true e = rw (le-ltb 0 l.old.measure (omega (arith, p.nowhere (eqb-true l.old.round 0 e)))) (and-false (eqb l.new.round r))
     go false e = refl
 
 -- and no lift comes from a round beyond the last
