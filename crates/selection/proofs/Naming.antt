@@ -6,6 +6,7 @@ use mathlib.Core.List.Memᴰ
 use mathlib.Core.List.{List, [], ◌∷◌, map, Memᴰ}
 use mathlib.Core.Logic.{◌⊎◌, inl, inr}
 use native.Mathlib.Omega.{arith}
+use native.Mathlib.Nat.{add-zero}
 use lib.Dec.{eqb, ltb}
 use borrow.Author.Tests.{eqb-true, eq-eqb, ne_eqb, ltb-true}
 use Rattle.probability.specs.Among.{among}
@@ -33,11 +34,10 @@ once : (key : Lift → ℕ) (t : ℕ) {a : Lift} {ls : List Lift} → Memᴰ a l
 unfolding AllWellFormed total_by
 once key t {a} (Memᴰ.head {x = x} {xs = ls} e) n d =
     rw (e, eq-eqb x.number x.number refl)
-    (omega (
-      arith,
-      total_by_none key t (λ l. indicator (eqb x.number l.number)) ls
-          (λ l m _. ap indicator (ne_eqb x.number l.number (λ q. omega (arith, (proper x.number ls d.1 l m).rises)))),
-    ))
+    (ap (λ n. cond (eqb (key x) t) 1 0 + n)
+    (total_by_none key t (λ l. indicator (eqb a.number l.number)) ls
+        (λ l m _. ap indicator (ne_eqb a.number l.number (λ q. omega (arith, (proper x.number ls d.1 l m).rises, ap (λ y. y.number) e)))))
+    ∙ add-zero _)
 once key t {a} (Memᴰ.tail {x = x} {xs = ls} h) n d =
     rw (ne_eqb a.number x.number (λ q. omega (arith, (proper x.number ls d.1 a h).rises)))
     (nothing (eqb (key x) t) ∙ once key t h x.number d.1)

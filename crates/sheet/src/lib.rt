@@ -102,7 +102,7 @@ pub enum Judged {
 
 // The state of the scan: the kind of the last word, 0 before the first, the number of the last lift, the word of its old place, and
 // how many lifts there are.
-#[derive(Drop)]
+#[derive(Clone, Copy)]
 pub struct ScanState {
     pub kind: u32,
     pub number: u32,
