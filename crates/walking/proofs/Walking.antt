@@ -1,14 +1,14 @@
 -- Steps of a walk by hand, beside those of `types.Run`: what the walks of all crates share.
 --     val, sets        a whole local is read, as an operand;  and assigned
---     calls-said       a call of a function whose one `ensures` says a fact φ of the result alone: its contract at y is given, what it asks stands at the head, and once it has returned u there stand what the result owns, the tokens and the rest, with φ in hand
---     opens-elem, shuts-elem   element i of a `&[S]`, S a struct of plain data: it is taken out, with its relation in hand, and put back
---     on_bool          a walk goes on in two ways, by how a test comes out.        less, not-less      what the test `m < k` says
+--     calls_said       a call of a function whose one `ensures` says a fact φ of the result alone: its contract at y is given, what it asks stands at the head, and once it has returned u there stand what the result owns, the tokens and the rest, with φ in hand
+--     opens_elem, shuts_elem   element i of a `&[S]`, S a struct of plain data: it is taken out, with its relation in hand, and put back
+--     on_bool          a walk goes on in two ways, by how a test comes out.        less, not_less      what the test `m < k` says
 --     goes_in          the test of an `if` holds: its first arm runs
---     passes-by        the test of an `if` with an empty second arm fails: what stands after it runs
+--     passes_by        the test of an `if` with an empty second arm fails: what stands after it runs
 --     freed            a local that holds something is freed
---     drops, drops-go  nothing is kept of the parameters, where nothing is said of them at exit: plain data, and references that are `&`
---     ends-plain       so the tokens and what the result owns are all that a walk has at its end, where the one `ensures` says a fact
---     Outside, Ending, Walk   what such a walk's triple binds outside, and at one choice of it: what holds at the end, and what the walk shows.        meets-plain      so the function meets its contract
+--     drops, drops_go  nothing is kept of the parameters, where nothing is said of them at exit: plain data, and references that are `&`
+--     ends_plain       so the tokens and what the result owns are all that a walk has at its end, where the one `ensures` says a fact
+--     Outside, Ending, Walk   what such a walk's triple binds outside, and at one choice of it: what holds at the end, and what the walk shows.        meets_plain      so the function meets its contract
 -- Assumes `Logic`.
 use mathlib.Core.Path.{◌≡◌, refl, sym, subst}
 use Prim.Native.Nat.{ℕ, ◌<◌, ◌≤◌}
@@ -18,23 +18,24 @@ use mathlib.Core.List.{List, [], ◌∷◌}
 use lib.Dec.{T as Holds, ltb, ltb→lt, lt→ltb}
 use lib.ListN.{length, get_or}
 use seplogic.Ra.Ura.{Ura}
-use seplogic.Ra.TreeShare.{full_share}
-use mir.Syntax.{Name, Fn, Ty, Place, place, Body, Opd as Operand, copy, Rv as RValue, skip, seq, assign, cond, call}
+use base.Fraction.{full_share}
+use mir.Syntax.{Callee, Fn, Ty, Place, place, Body, Opd as Operand, copy, Rv as RValue, skip, seq, assign, cond, call}
 use mir.Val.{Val, vbool}
 use base.Logic.{SProp, ent, sep, emp, via, id⊢, ex_e, snd∗, emp∗, mono∗}
-use base.Fml.{Lft, Share, fat, fdies, flft, fobor, fshr_bor}
+use base.Fml.{Lft, Share, fat, fdies, flft, fhide}
 use prog.Wp.{Env, Calls, Loops, Tables, Wp, WpFn, spot_of, after_seq}
 use types.Logic.{Logic, sem}
 use contract.Monad.{fact}
 use types.Kit.{Item, ‵, raw, ◌⊛◌, some, later, Post, Goal, Soaks, any_q, post, runs, lands, frees, Seq, Step, step, ◌$◌, ◌∵◌, !, qed, move, use0, use1, split, pick, suffices, frame, await, done}
 use types.Run.{Reads, Writes, Opd, Opds, Rv, stop, from, load, assigns, forget, free1, first, branches, skips}
-use types.Share.{arr_parts}
 use sound.WpLaws.{FmC, WpFn-mono}
-use denote.Index.{place as placed, others, elem_out, elem_back, looks_slice, shuts_slice}
+use denote.Index.{place as placed, row as elements, others, elem_out, elem_back, looks_slice, shuts_slice}
 use denote.Laws.{Is, Ises, Are, Spells, Tellss, valss, shows}
 use denote.Memory.{cell_at, mem, shares}
+use denote.Opens.{Shut}
 use denote.RattleType.{Denots, Valss, flat}
 use denote.Signature.{Slot, type_at, types_at}
+use denote.Slice.{elements_shared}
 use contract.Lifetimes.{Lfts, Shares, AllOutlive}
 use denote.Steps.{heard}
 use denote.Struct.Declared.{Declared, row}
@@ -83,7 +84,7 @@ module _ {M : Type 1} {𝓤 : Ura M} {𝓛 : Logic 𝓤} {K : Type 0} {Γ : List
   passes_by t o = step (λ s. first t $ branches t o (λ z. absurd z) (λ _. skips t $ record { prf = s.prf }))
 
   -- ---- a call
-  pub calls_said : K → (T : Ended) (c : Clauses 𝓤 T) → FmC 𝓤 H 𝓛.laws C → {f : Name} {xs : List Operand} {d : Place} {q : Post 𝓤 H} {rest : Body}
+  pub calls_said : K → (T : Ended) (c : Clauses 𝓤 T) → FmC 𝓤 H 𝓛.laws C → {f : Callee} {xs : List Operand} {d : Place} {q : Post 𝓤 H} {rest : Body}
       → (y : (triple_of 𝓛 T.signature (closing 𝓛 T c)).Ghost) → ent 𝓤 ((triple_of 𝓛 T.signature (closing 𝓛 T c)).pre y) (C f ((triple_of 𝓛 T.signature (closing 𝓛 T c)).args y) ((triple_of 𝓛 T.signature (closing 𝓛 T c)).post y)) → (φ : Res T.signature y.0.0 → Type 0)
       → ((r : Res T.signature y.0.0) (ws : Lasts T y.0.0 y.0.3) → (c y.0.0 y.0.3).ensures y.1 r (at_exit T y.0.0 y.0.3 ws) ≡ fact 𝓤 (φ r))
       → Opds K 𝓛 (raw ((triple_of 𝓛 T.signature (closing 𝓛 T c)).pre y) ∷ Γ) E xs ((triple_of 𝓛 T.signature (closing 𝓛 T c)).args y)
@@ -102,15 +103,15 @@ module _ {M : Type 1} {𝓤 : Ura M} {𝓛 : Logic 𝓤} {K : Type 0} {Γ : List
   pub opens_elem : K → Soaks G → (S : Declared) (L : LL.Laws S) → LL.Copyables S.parts → {κ : Lft} {q : Share} (ys : List S.D) (i : ℕ) (d : S.D) (b o : ℕ) → i < length ys
       → ((q' : Share) → Is (row S) (get_or ys i d) (LL.vals S L (get_or ys i d))
       → Seq K 𝓛 (‵ (cell_at q' (row S).mir (LL.vals S L (get_or ys i d)) b (placed (mem (row S)).size o i)) ∷ ‵ ((row S).own_val (get_or ys i d) (LL.vals S L (get_or ys i d))) ∷ ‵ (others (shares (row S)) q' ys i b o)
-      ∷ ‵ (fobor κ q ((arr_parts (shares (row S)) (length ys)).part q' ys b o)) ∷ ‵ (fshr_bor κ (λ s. (arr_parts (shares (row S)) (length ys)).part s ys b o)) ∷ Γ) G)
-      → Seq K 𝓛 (‵ (fshr_bor κ (λ s. (arr_parts (shares (row S)) (length ys)).part s ys b o)) ∷ ‵ (flft κ q) ∷ Γ) G
+      ∷ Shut 𝓛 κ q (elements (row S) q' ys b o) ∷ ‵ (fhide (elements_shared (row S) ys b o κ)) ∷ Γ) G)
+      → Seq K 𝓛 (‵ (fhide (elements_shared (row S) ys b o κ)) ∷ ‵ (flft κ q) ∷ Γ) G
   opens_elem t z S L cs ys i d b o l k =
-      looks_slice t z (row S) (Is (row S)) (shows 𝓛 (row S)) (LL.vals S L) (LL.tells S L) (LL.copy S cs 𝓛) ys b o (λ q'.
+      looks_slice t z (row S) (LL.copied S cs 𝓛) ys b o (λ q'.
       elem_out t (row S) (Is (row S)) (shows 𝓛 (row S)) (LL.vals S L) (LL.tells S L) q' ys i d b o l (k q'))
 
   pub shuts_elem : K → Soaks G → (S : Declared) (L : LL.Laws S) {κ : Lft} {q : Share} (q' : Share) (ys : List S.D) (i : ℕ) (d : S.D) (b o : ℕ) → i < length ys
       → Step K 𝓛 (‵ (flft κ q) ∷ Γ) G (‵ (cell_at q' (row S).mir (LL.vals S L (get_or ys i d)) b (placed (mem (row S)).size o i)) ∷ ‵ ((row S).own_val (get_or ys i d) (LL.vals S L (get_or ys i d))) ∷ ‵ (others (shares (row S)) q' ys i b o)
-      ∷ ‵ (fobor κ q ((arr_parts (shares (row S)) (length ys)).part q' ys b o)) ∷ Γ) G
+      ∷ Shut 𝓛 κ q (elements (row S) q' ys b o) ∷ Γ) G
   shuts_elem t z S L q' ys i d b o l = step (λ s. elem_back t (row S) q' ys i d (LL.vals S L (get_or ys i d)) b o l $ shuts_slice t z (row S) q' ys b o $ s)
 
 -- ---- at the end
