@@ -57,6 +57,8 @@ def tables(texts):
         if lemma_file(path):
             names |= {n for n in declared(text) | bound(text) if NEEDS.search(n) and not re.match(r"[A-Z][a-z]", n)}
             (specs if "/specs/" in path else lemmas).update(declared(text))
+        elif path.endswith(".rt"):
+            names |= {n for n in ALIAS.findall(text) if NEEDS.search(n) and not re.match(r"[A-Z][a-z]", n)}
     table, taken = {n: snake(n) for n in sorted(names)}, {}
     for old, new in table.items():
         taken.setdefault(new, []).append(old)

@@ -1,12 +1,12 @@
 // Next quarter's sheet, written from a sheet and its choices (Card 3 of document 02).
 ghost use Rattle.std.specs.Prelude.{◌≡◌, ◌+◌, ◌≤◌, ◌<◌, length, drop};
 ghost use Rattle.std.proofs.lemmas.List.Edits.{sets};
-ghost use Rattle.sheet.specs.Sheet.{most_rounds, old_kind, new_kind, lift_of, lifts as liftsOfSheet, place_word, sheet_of};
+ghost use Rattle.sheet.specs.Sheet.{most_rounds, old_kind, new_kind, lift_of, lifts as lifts_of_sheet, place_word, sheet_of};
 ghost use Rattle.sheet.specs.Reading.{Legible};
 ghost use Rattle.sheet.specs.Lift.{place_at, New, MarkSound};
 ghost use Rattle.tally.specs.Tables.{Tabled};
 ghost use Rattle.reply.specs.Reply.{onto};
-ghost use Rattle.carry.specs.Next.{remaining as remainingOf, uncounted, carried_on, in_table, words_on};
+ghost use Rattle.carry.specs.Next.{remaining as remaining_of, uncounted, carried_on, in_table, words_on};
 
 use sheet::Sheet;
 use tally::Tallies;
@@ -14,8 +14,8 @@ use tally::Tallies;
 // How many of a sheet's lifts have a new round, from its tables.
 pub fn remaining(sheet: &[u32], t: Tallies) -> usize
     requires legible { Legible sheet.now }
-    requires tabled { Tabled (liftsOfSheet sheet.now) t }
-    ensures { result ≡ length (remainingOf (liftsOfSheet sheet.now)) }
+    requires tabled { Tabled (lifts_of_sheet sheet.now) t }
+    ensures { result ≡ length (remaining_of (lifts_of_sheet sheet.now)) }
 {
     let lifts = t.new_lifts;
     scan::size(sheet) - lifts[0] as usize
@@ -88,9 +88,9 @@ fn write_lift(
 // Next quarter's sheet, written to the beginning of `next`: `chosen` has the lifts chosen by new round, and `lifts` remain.
 pub fn write(sheet: &[u32], chosen: &[u32; Sheet::TABLE], lifts: usize, next: &mut [u32])
     requires legible { Legible sheet.now }
-    requires lifts_value { lifts ≡ length (remainingOf (liftsOfSheet sheet.now)) }
-    requires sheet_in_bounds { length (sheet_of (carried_on (in_table chosen.now) (liftsOfSheet sheet.now))) ≤ length next.old }
-    ensures { next.new ≡ onto (sheet_of (carried_on (in_table chosen.now) (liftsOfSheet sheet.now))) next.old }
+    requires lifts_value { lifts ≡ length (remaining_of (lifts_of_sheet sheet.now)) }
+    requires sheet_in_bounds { length (sheet_of (carried_on (in_table chosen.now) (lifts_of_sheet sheet.now))) ≤ length next.old }
+    ensures { next.new ≡ onto (sheet_of (carried_on (in_table chosen.now) (lifts_of_sheet sheet.now))) next.old }
 {
     let mut i = 0;
     let mut at = 0;

@@ -3,7 +3,7 @@ ghost use Rattle.std.specs.Prelude.{◌≡◌, ◌+◌, ◌^◌, ◌≤◌, ◌<
 ghost use Rattle.probability.specs.Sum.{indicator};
 ghost use Rattle.sheet.specs.Sheet.{most_lifts};
 ghost use Rattle.counts.specs.Text.{lines, largest_count};
-ghost use Rattle.counts.specs.Counts.{hundreds as hundredsOf};
+ghost use Rattle.counts.specs.Counts.{hundreds as hundreds_of};
 ghost use Rattle.intake.specs.Positions.{LiftNumbers, cut_at, Located, LinesAnswered};
 
 use crate::text::{Line, read_line};
@@ -21,7 +21,7 @@ pub enum Lines {
 // A count in hundreds, rounded up.
 fn hundreds(count: u64) -> u64
     requires { count ≤ largest_count }
-    ensures { result ≡ hundredsOf count }
+    ensures { result ≡ hundreds_of count }
 {
     (count + 99) / 100
 }

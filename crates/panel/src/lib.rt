@@ -2,7 +2,7 @@
 ghost use Rattle.std.specs.Prelude.{◌≡◌, List, ℕ, ◌≤◌, length};
 ghost use Rattle.reply.specs.Reply.{replied, unless_refused};
 ghost use Rattle.reply.specs.Refusal.{reply_of};
-ghost use Rattle.sheet.specs.Sheet.{most_rounds, lifts as liftsOfSheet};
+ghost use Rattle.sheet.specs.Sheet.{most_rounds, lifts as lifts_of_sheet};
 ghost use Rattle.sheet.specs.Reading.{Legible};
 ghost use Rattle.sheet.specs.Lift.{New};
 ghost use Rattle.tally.specs.Rounds.{in_use};
@@ -10,7 +10,7 @@ ghost use Rattle.tally.specs.Tables.{Tabled};
 ghost use Rattle.tally.specs.Verdict.{verdict_by, verdict_of};
 ghost use Rattle.tally.specs.Law.{Fitting, VerdictAndTables};
 ghost use Rattle.picks.specs.Choosing.{way_of};
-ghost use Rattle.selection.specs.Choice.{fourth, panel as panelOf, unless_lacking, of_lent, written_panel, reply, output};
+ghost use Rattle.selection.specs.Choice.{fourth, panel as panel_of, unless_lacking, of_lent, written_panel, reply, output};
 ghost use Rattle.selection.specs.Fair.{Fair};
 ghost use Rattle.carry.specs.Next.{remaining};
 ghost use Rattle.carry.specs.Reply.{of_lent_next, reply_next, output_next, carried_to, lent_sheet};
@@ -58,9 +58,9 @@ fn choose_fitting(
     out: &mut [u32],
 ) -> Answer
     requires fitting { Fitting sheet.now }
-    requires tabled { Tabled (liftsOfSheet sheet.now) t }
-    ensures result_value { reply_of result ≡ of_lent (way_of way) (liftsOfSheet sheet.now) (length (in_use New (liftsOfSheet sheet.now))) words.now start (length out.old) }
-    ensures out_after { out.new ≡ unless_refused (of_lent (way_of way) (liftsOfSheet sheet.now) (length (in_use New (liftsOfSheet sheet.now))) words.now start (length out.old)) out.old (written_panel (panelOf (way_of way) (liftsOfSheet sheet.now) words.now start) out.old) }
+    requires tabled { Tabled (lifts_of_sheet sheet.now) t }
+    ensures result_value { reply_of result ≡ of_lent (way_of way) (lifts_of_sheet sheet.now) (length (in_use New (lifts_of_sheet sheet.now))) words.now start (length out.old) }
+    ensures out_after { out.new ≡ unless_refused (of_lent (way_of way) (lifts_of_sheet sheet.now) (length (in_use New (lifts_of_sheet sheet.now))) words.now start (length out.old)) out.old (written_panel (panel_of (way_of way) (lifts_of_sheet sheet.now) words.now start) out.old) }
 {
     let rounds = survey::in_use(&t.new_lifts);
     let lack = lacking(rounds, words.len(), start, out.len());
@@ -88,7 +88,7 @@ fn choose_by(way: Way, sheet: &[u32], words: &[u64], start: usize, out: &mut [u3
 pub fn choose(sheet: &[u32], words: &[u64], start: usize, out: &mut [u32]) -> Answer
     ensures replied { reply_of result ≡ reply fourth sheet.now words.now start (length out.old) }
     ensures written { out.new ≡ output fourth sheet.now words.now start out.old }
-    ensures fair { Fitting sheet.now → Fair fourth (liftsOfSheet sheet.now) }
+    ensures fair { Fitting sheet.now → Fair fourth (lifts_of_sheet sheet.now) }
 {
     choose_by(Way::Fourth, sheet, words, start, out)
 }
@@ -98,9 +98,9 @@ pub fn choose(sheet: &[u32], words: &[u64], start: usize, out: &mut [u32]) -> An
 // Writes next quarter's sheet, with the `lifts` that remain, unless the words ended.
 fn write_next(sheet: &[u32], p: Picks, lifts: usize, next: &mut [u32])
     requires legible { Legible sheet.now }
-    requires lifts_value { lifts ≡ length (remaining (liftsOfSheet sheet.now)) }
-    requires sheet_in_bounds { p.short ≡ 0 → length (sheet_by p (liftsOfSheet sheet.now)) ≤ length next.old }
-    ensures { CarriesOn p (liftsOfSheet sheet.now) next.old next.new }
+    requires lifts_value { lifts ≡ length (remaining (lifts_of_sheet sheet.now)) }
+    requires sheet_in_bounds { p.short ≡ 0 → length (sheet_by p (lifts_of_sheet sheet.now)) ≤ length next.old }
+    ensures { CarriesOn p (lifts_of_sheet sheet.now) next.old next.new }
 {
     if p.short == 0 {
         let numbers = p.numbers;
@@ -118,10 +118,10 @@ fn choose_next_fitting(
     next: &mut [u32],
 ) -> Answer
     requires fitting { Fitting sheet.now }
-    requires tabled { Tabled (liftsOfSheet sheet.now) t }
-    ensures result_value { reply_of result ≡ of_lent_next (liftsOfSheet sheet.now) (length (in_use New (liftsOfSheet sheet.now))) words.now start (length out.old) (length next.old) }
-    ensures out_after { out.new ≡ unless_refused (of_lent_next (liftsOfSheet sheet.now) (length (in_use New (liftsOfSheet sheet.now))) words.now start (length out.old) (length next.old)) out.old (written_panel (panelOf fourth (liftsOfSheet sheet.now) words.now start) out.old) }
-    ensures next_after { next.new ≡ unless_refused (of_lent_next (liftsOfSheet sheet.now) (length (in_use New (liftsOfSheet sheet.now))) words.now start (length out.old) (length next.old)) next.old (carried_to (panelOf fourth (liftsOfSheet sheet.now) words.now start) (liftsOfSheet sheet.now) next.old) }
+    requires tabled { Tabled (lifts_of_sheet sheet.now) t }
+    ensures result_value { reply_of result ≡ of_lent_next (lifts_of_sheet sheet.now) (length (in_use New (lifts_of_sheet sheet.now))) words.now start (length out.old) (length next.old) }
+    ensures out_after { out.new ≡ unless_refused (of_lent_next (lifts_of_sheet sheet.now) (length (in_use New (lifts_of_sheet sheet.now))) words.now start (length out.old) (length next.old)) out.old (written_panel (panel_of fourth (lifts_of_sheet sheet.now) words.now start) out.old) }
+    ensures next_after { next.new ≡ unless_refused (of_lent_next (lifts_of_sheet sheet.now) (length (in_use New (lifts_of_sheet sheet.now))) words.now start (length out.old) (length next.old)) next.old (carried_to (panel_of fourth (lifts_of_sheet sheet.now) words.now start) (lifts_of_sheet sheet.now) next.old) }
 {
     let rounds = survey::in_use(&t.new_lifts);
     let lack = lacking(rounds, words.len(), start, out.len());
@@ -150,8 +150,8 @@ pub fn choose_next(
     ensures replied { reply_of result ≡ reply_next sheet.now words.now start (length out.old) (length next.old) }
     ensures written { out.new ≡ output_next sheet.now words.now start out.old (length next.old) }
     ensures carried { next.new ≡ lent_sheet sheet.now words.now start (length out.old) next.old }
-    ensures carries { Fitting sheet.now → CarriesAll (liftsOfSheet sheet.now) }
-    ensures fair { Fitting sheet.now → Fair fourth (liftsOfSheet sheet.now) }
+    ensures carries { Fitting sheet.now → CarriesAll (lifts_of_sheet sheet.now) }
+    ensures fair { Fitting sheet.now → Fair fourth (lifts_of_sheet sheet.now) }
 {
     let e = survey::examine(sheet);
     match check_by(Way::Fourth, e) {

@@ -4,11 +4,11 @@ ghost use Rattle.probability.specs.Pieces.{pieces};
 ghost use Rattle.round.specs.Choice.{selected_by};
 ghost use Rattle.round.specs.Rows.{row_length, row_lifts as lifts_of_rows, initial_of, initials, Callable};
 ghost use Rattle.weights.specs.Scaling.{HasSums};
-ghost use Rattle.sheet.specs.Sheet.{most_rounds, lifts as liftsOfSheet};
+ghost use Rattle.sheet.specs.Sheet.{most_rounds, lifts as lifts_of_sheet};
 ghost use Rattle.tally.specs.Tables.{Tabled};
 ghost use Rattle.tally.specs.Law.{Fitting};
 ghost use Rattle.rows.specs.Rows.{place_in};
-ghost use Rattle.selection.specs.Choice.{with_sums, panel as panelOf};
+ghost use Rattle.selection.specs.Choice.{with_sums, panel as panel_of};
 ghost use Rattle.picks.specs.Choosing.{update_of, way_of, donors_at, initial_by, initials_at, step_of, Picked};
 
 use round::{Donors, Held, Lift, Seat, Selected};
@@ -189,9 +189,9 @@ fn select_rounds(
     start: usize,
     rows: &mut [u32],
 ) -> Picks
-    requires fitting { Fitting sheet.now × Tabled (liftsOfSheet sheet.now) t }
-    requires rows_len { length rows.old ≡ row_length * length (liftsOfSheet sheet.now) }
-    ensures { Picked (panelOf (way_of way) (liftsOfSheet sheet.now) words.now start) result }
+    requires fitting { Fitting sheet.now × Tabled (lifts_of_sheet sheet.now) t }
+    requires rows_len { length rows.old ≡ row_length * length (lifts_of_sheet sheet.now) }
+    ensures { Picked (panel_of (way_of way) (lifts_of_sheet sheet.now) words.now start) result }
 {
     let x = rows::lay_out(sheet, t, rows);
     let mut numbers = [0u32; Sheet::TABLE];
@@ -224,8 +224,8 @@ fn select_rounds(
 // The same, with rows of its own.
 pub fn select_all(way: Way, sheet: &[u32], t: Tallies, words: &[u64], start: usize) -> Picks
     requires fitting { Fitting sheet.now }
-    requires tabled { Tabled (liftsOfSheet sheet.now) t }
-    ensures { Picked (panelOf (way_of way) (liftsOfSheet sheet.now) words.now start) result }
+    requires tabled { Tabled (lifts_of_sheet sheet.now) t }
+    ensures { Picked (panel_of (way_of way) (lifts_of_sheet sheet.now) words.now start) result }
 {
     let mut rows = [0u32; Lift::ROW * Sheet::MOST_LIFTS];
     let end = Lift::ROW * scan::size(sheet);

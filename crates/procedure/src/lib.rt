@@ -1,6 +1,6 @@
 // The fourth procedure of document 002 for one round, with Keyfitz's update: which of its lifts is to carry the recorder, from random words.
 ghost use Rattle.std.specs.Prelude.{◌≡◌, cond, [], ◌∷◌, map, ◌≤◌, ◌<◌, ltb, length};
-ghost use Rattle.probability.specs.Plan.{done, draw as drawOf};
+ghost use Rattle.probability.specs.Plan.{done, draw as draw_of};
 ghost use Rattle.draw.specs.Draw.{largest};
 ghost use Rattle.draw.specs.Run.{run};
 ghost use Rattle.round.specs.Round.{growth, G};
@@ -100,7 +100,7 @@ fn update(s: Scale, rows: &[u32], i: usize, words: &[u64], at: usize) -> Selecte
 // One of two held lifts, by a draw.
 fn draw_between(s: Scale, i: usize, j: usize, words: &[u64], at: usize) -> Proposed
     requires { 1 ≤ s.new }
-    ensures { result ≡ placed (run largest words.now at (drawOf s.new (λ v. cond (ltb v s.odds) (done i) (done j)))) }
+    ensures { result ≡ placed (run largest words.now at (draw_of s.new (λ v. cond (ltb v s.odds) (done i) (done j)))) }
 {
     match draw::draw_from(words, at, s.new) {
         Drawn::Value(v, next) => {

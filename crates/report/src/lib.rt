@@ -4,7 +4,7 @@ ghost use Rattle.std.specs.Prelude.{◌≡◌, [], ◌∷◌, ◌++◌, ◌+◌,
 ghost use Rattle.sheet.specs.Sheet.{longest};
 ghost use Rattle.reply.specs.Reply.{numbered};
 ghost use Rattle.reply.specs.Refusal.{reply_of};
-ghost use Rattle.report.specs.Report.{little_endian, little_endian_words, most_words, sheet_words, random_words, decimal, field, choice_line as line_of, pair_lines, words_line, refused_line, text_of, report as reportOf, printed_words, text_room, Printable, Decoded, Appended};
+ghost use Rattle.report.specs.Report.{little_endian, little_endian_words, most_words, sheet_words, random_words, decimal, field, choice_line as line_of, pair_lines, words_line, refused_line, text_of, report as report_of, printed_words, text_room, Printable, Decoded, Appended};
 
 use reply::Answer;
 use sheet::Sheet;
@@ -231,7 +231,7 @@ fn put_text(sheet: &[u8], words: &[u8], text: &mut [u8]) -> usize
 
 // The whole text, from what was read of the sheet, its true length in bytes, and what was read of the words; answers how long it is.
 pub fn report(sheet: &[u8], size: usize, words: &[u8], text: &mut [u8; TEXT_ROOM]) -> usize
-    ensures is { take result text.new ≡ reportOf sheet.now size words.now }
+    ensures is { take result text.new ≡ report_of sheet.now size words.now }
     ensures fits { result ≤ length text.new }
 {
     if size % 4 != 0 {

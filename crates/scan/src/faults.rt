@@ -1,14 +1,14 @@
 // The refusals that a word meets, after the words before it: 2 to 6, and 16.
 ghost use Rattle.std.specs.Prelude.{◌≡◌, cond, ◌≤◌};
 ghost use Rattle.sheet.specs.Sheet.{longest};
-ghost use Rattle.sheet.specs.Reading.{next_state as next_of, may_follow as followsOf, misnumbered as misnumberedOf, is_place, too_large as tooLargeOf, beyond as beyondOf, misplaced as misplacedOf, uncounted_newcomer as uncountedNewcomerOf, miscounted as miscountedOf, mismarked as mismarkedOf, fault, unless_fault, sound, reading_of};
+ghost use Rattle.sheet.specs.Reading.{next_state as next_of, may_follow as follows_of, misnumbered as misnumbered_of, is_place, too_large as too_large_of, beyond as beyond_of, misplaced as misplaced_of, uncounted_newcomer as uncounted_newcomer_of, miscounted as miscounted_of, mismarked as mismarked_of, fault, unless_fault, sound, reading_of};
 
 use reply::Refusal;
 use sheet::{Judged, ScanState, Sheet};
 
 // Whether a kind may follow another.
 pub fn follows(before: u32, kind: u32) -> bool
-    ensures { result ≡ followsOf before kind }
+    ensures { result ≡ follows_of before kind }
 {
     if before == Sheet::LIFT {
         return kind == Sheet::OLD;
@@ -24,7 +24,7 @@ pub fn follows(before: u32, kind: u32) -> bool
 
 // Whether refusal 3 applies to a word.
 fn misnumbered(s: ScanState, word: u32) -> bool
-    ensures { result ≡ misnumberedOf s word }
+    ensures { result ≡ misnumbered_of s word }
 {
     let payload = Sheet::payload(word);
     Sheet::kind(word) == Sheet::LIFT && (payload == 0 || payload <= s.number)
@@ -39,14 +39,14 @@ fn is_place(kind: u32) -> bool
 
 // Whether a measure is too large in a word of a kind.
 fn too_large(kind: u32, measure: u64) -> bool
-    ensures { result ≡ tooLargeOf kind measure }
+    ensures { result ≡ too_large_of kind measure }
 {
     measure > Sheet::LARGEST_SUM && (kind != Sheet::NEW || measure != Sheet::NOT_COUNTED)
 }
 
 // Whether refusal 4 meets a round and a measure in a word of a kind.
 fn beyond(kind: u32, round: usize, measure: u64) -> bool
-    ensures { result ≡ beyondOf kind round measure }
+    ensures { result ≡ beyond_of kind round measure }
 {
     if round > Sheet::MOST_ROUNDS {
         return true;
@@ -59,7 +59,7 @@ fn beyond(kind: u32, round: usize, measure: u64) -> bool
 
 // Whether refusal 4 applies to a word.
 fn misplaced(word: u32) -> bool
-    ensures { result ≡ misplacedOf word }
+    ensures { result ≡ misplaced_of word }
 {
     let kind = Sheet::kind(word);
     is_place(kind) && beyond(kind, Sheet::round(word), Sheet::measure(word))
@@ -67,7 +67,7 @@ fn misplaced(word: u32) -> bool
 
 // Whether refusal 16 applies to a word.
 fn uncounted_newcomer(s: ScanState, word: u32) -> bool
-    ensures { result ≡ uncountedNewcomerOf s word }
+    ensures { result ≡ uncounted_newcomer_of s word }
 {
     Sheet::kind(word) == Sheet::NEW
         && (Sheet::round(s.old) == 0 && Sheet::measure(word) == Sheet::NOT_COUNTED)
@@ -75,7 +75,7 @@ fn uncounted_newcomer(s: ScanState, word: u32) -> bool
 
 // Whether refusal 5 applies to a word.
 fn miscounted(s: ScanState, word: u32) -> bool
-    ensures { result ≡ miscountedOf s word }
+    ensures { result ≡ miscounted_of s word }
 {
     let payload = Sheet::payload(word) as usize;
     Sheet::kind(word) == Sheet::END && (payload != s.lifts || payload > Sheet::MOST_LIFTS)
@@ -83,14 +83,14 @@ fn miscounted(s: ScanState, word: u32) -> bool
 
 // Whether refusal 6 applies to a word.
 fn mismarked(s: ScanState, word: u32) -> bool
-    ensures { result ≡ mismarkedOf s word }
+    ensures { result ≡ mismarked_of s word }
 {
     Sheet::kind(word) == Sheet::HELD && (Sheet::payload(word) != 0 || Sheet::measure(s.old) == 0)
 }
 
 // The refusal that a word at position i meets, if it is 4 or 16.
 fn judge_place(s: ScanState, word: u32, i: usize) -> Judged
-    ensures { reading_of result ≡ unless_fault (cond (misplacedOf word) 4 (cond (uncountedNewcomerOf s word) 16 0)) i sound }
+    ensures { reading_of result ≡ unless_fault (cond (misplaced_of word) 4 (cond (uncounted_newcomer_of s word) 16 0)) i sound }
 {
     if misplaced(word) {
         return Judged::Faulty(Refusal::Place(i));

@@ -3,13 +3,13 @@ ghost use Rattle.std.specs.Prelude.{◌≡◌, ◌+◌, ◌<◌, length, drop};
 ghost use Rattle.probability.specs.Sum.{indicator};
 ghost use Rattle.sheet.specs.Sheet.{lift_of, lifts};
 ghost use Rattle.sheet.specs.Reading.{Legible};
-ghost use Rattle.sheet.specs.Lift.{filled_in as filledInOf, MarkSound, entry_of};
+ghost use Rattle.sheet.specs.Lift.{filled_in as filled_in_of, MarkSound, entry_of};
 
 use sheet::{Entry, Sheet};
 
 // The new measure that counts, from both measures as written.
 fn filled_in(old: u64, new: u64) -> u64
-    ensures { result ≡ filledInOf old new }
+    ensures { result ≡ filled_in_of old new }
 {
     if new == Sheet::NOT_COUNTED {
         return old;

@@ -1,7 +1,7 @@
 // The words of a sheet read one by one, up to the first faulty one.
 ghost use Rattle.std.specs.Prelude.{◌≡◌, true, false, ◌≤◌, ◌<◌, length};
 ghost use Rattle.sheet.specs.Sheet.{largest_sum, longest, kind as kind_of, place_of};
-ghost use Rattle.sheet.specs.Reading.{next_state as next_of, misplaced as misplacedOf, fault, reading, of_words, reading_of};
+ghost use Rattle.sheet.specs.Reading.{next_state as next_of, misplaced as misplaced_of, fault, reading, of_words, reading_of};
 
 use crate::faults::{follows, judge, next};
 use reply::Refusal;
@@ -10,7 +10,7 @@ use sheet::{Judged, ScanState, Sheet};
 // Whether a word is of a kind and holds a place whose measure is counted: of a round from 1 to 100, or round 0 with measure 0.
 fn is_counted_place(kind: u32, word: u32) -> bool
     requires { kind < 16 }
-    ensures { result ≡ true → (kind_of word ≡ kind) × (misplacedOf word ≡ false) × ((place_of word).measure ≤ largest_sum) }
+    ensures { result ≡ true → (kind_of word ≡ kind) × (misplaced_of word ≡ false) × ((place_of word).measure ≤ largest_sum) }
 {
     if Sheet::measure(word) > Sheet::LARGEST_SUM {
         return false;

@@ -1,6 +1,6 @@
 // The sheet ("The sheet" of document 01): its bounds, its words and their parts, and the types of what is read from them.
 ghost use Rattle.std.specs.Prelude.{◌≡◌, ◌+◌, ◌*◌, ◌^◌, ◌<◌};
-ghost use Rattle.sheet.specs.Sheet.{kind as kind_of, payload as payloadOf, place_of, word as word_of};
+ghost use Rattle.sheet.specs.Sheet.{kind as kind_of, payload as payload_of, place_of, word as word_of};
 
 use reply::Refusal;
 
@@ -55,7 +55,7 @@ impl Sheet {
 
     // A word's payload.
     pub fn payload(word: u32) -> u32
-        ensures { result ≡ payloadOf word }
+        ensures { result ≡ payload_of word }
     {
         word % Self::PAYLOADS
     }

@@ -5,7 +5,7 @@ ghost use Rattle.probability.specs.Sum.{indicator};
 ghost use Rattle.sheet.specs.Sheet.{lifts};
 ghost use Rattle.sheet.specs.Reading.{Legible};
 ghost use Rattle.tally.specs.Rounds.{rounds};
-ghost use Rattle.tally.specs.Verdict.{breaks as breaksOf, of_rounds, verdict, verdict_of};
+ghost use Rattle.tally.specs.Verdict.{breaks as breaks_of, of_rounds, verdict, verdict_of};
 ghost use Rattle.tally.specs.Tables.{bit_of, donor_counts, Tabled, found_first as first_of};
 ghost use Rattle.tally.specs.Law.{VerdictAndTables};
 
@@ -69,7 +69,7 @@ fn survey(sheet: &[u32]) -> Tallies
 
 // Whether a round breaks a rule, from how many lifts name it and the number that the rule is about.
 fn breaks(rule: Rule, lifts: u64, n: u64) -> bool
-    ensures { result ≡ breaksOf rule lifts n }
+    ensures { result ≡ breaks_of rule lifts n }
 {
     match rule {
         Rule::OneHeld => 0 < lifts && n != 1,
@@ -85,7 +85,7 @@ fn first_breaking<'a>(
     lifts: &'a [u64; Sheet::TABLE],
     numbers: &'a [u64; Sheet::TABLE],
 ) -> Found
-    ensures { result ≡ first_of (rounds (λ t. breaksOf rule (get_or lifts.now t 0) (get_or numbers.now t 0))) }
+    ensures { result ≡ first_of (rounds (λ t. breaks_of rule (get_or lifts.now t 0) (get_or numbers.now t 0))) }
 {
     let mut r = 1;
     while r <= Sheet::MOST_ROUNDS {

@@ -1,7 +1,7 @@
 // The weights of a round's lifts: their growths, the sums that the choice goes by, and the multipliers that give the weights.
 ghost use Rattle.std.specs.Prelude.{◌≡◌, List, map, ◌^◌, ◌≤◌, ◌<◌, length};
 ghost use Rattle.std.proofs.Math.Seq.{slice};
-ghost use Rattle.round.specs.Round.{lift_at, U, measure_from as sentOf, growth, G, WellPosed};
+ghost use Rattle.round.specs.Round.{lift_at, U, measure_from as sent_of, growth, G, WellPosed};
 ghost use Rattle.round.specs.Rows.{row_lifts, Bounded};
 ghost use Rattle.weights.specs.Scaling.{HasSums, ProductsFit, multiplier_of, scaled, scale_of, WeightsFit, LiftWeightsFit};
 
@@ -108,7 +108,7 @@ pub fn growth_sum(s: Scale, rows: &[u32]) -> u64
 
 // A lift's old measure where it comes from donor k, else 0.
 fn measure_from(l: Lift, k: u32) -> u64
-    ensures { result ≡ sentOf k l }
+    ensures { result ≡ sent_of k l }
 {
     if l.donor == k {
         return l.old;
