@@ -17,7 +17,7 @@ use tally::Tallies;
 use weights::Sums;
 
 // The ways of choosing.
-#[derive(Drop)]
+#[derive(Clone, Copy)]
 pub enum Way {
     // The fourth procedure of document 002.
     Fourth,

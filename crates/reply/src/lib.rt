@@ -4,7 +4,7 @@ ghost use Rattle.std.specs.Prelude.{◌≡◌};
 ghost use Rattle.reply.specs.Refusal.{refusal_of, reply_of};
 
 // Why a call is refused, with the place that the document gives; in the order of the document's numbers.
-#[derive(Drop)]
+#[derive(Clone, Copy)]
 pub enum Refusal {
     // The sheet's length.
     Length(usize),

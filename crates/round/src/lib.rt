@@ -2,7 +2,7 @@
 // for each lift, of four numbers: one that is the caller's, donor (1 or 2, 0 for none), old measure and new measure.
 
 // The donors of a round, with their whole old sums T.
-#[derive(Drop)]
+#[derive(Clone, Copy)]
 pub enum Donors {
     None,
     One(u64),
@@ -10,14 +10,14 @@ pub enum Donors {
 }
 
 // Where a donor's held lift is: at a place of the round, or elsewhere.
-#[derive(Drop)]
+#[derive(Clone, Copy)]
 pub enum Seat {
     Here(usize),
     Elsewhere,
 }
 
 // Where the held lifts of donor 1 and donor 2 are; elsewhere for a donor that there is not.
-#[derive(Drop)]
+#[derive(Clone, Copy)]
 pub struct Held {
     pub first: Seat,
     pub second: Seat,
@@ -32,7 +32,7 @@ pub enum Selected {
 }
 
 // A lift of the round: "m and b are a lift's old and new measures"; the donor that it comes from is 1 or 2, or 0 for none.
-#[derive(Drop)]
+#[derive(Clone, Copy)]
 pub struct Lift {
     pub old: u64,
     pub donor: u32,

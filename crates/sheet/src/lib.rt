@@ -111,7 +111,7 @@ pub struct ScanState {
 }
 
 // A lift read from its words: its number, old round and measure, new round and the new measure that counts, and whether it is held.
-#[derive(Drop)]
+#[derive(Clone, Copy)]
 pub struct Entry {
     pub number: u32,
     pub from: usize,

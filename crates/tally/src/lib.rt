@@ -10,7 +10,7 @@ pub enum Checked {
 }
 
 // What a round must have: exactly one held lift, a sum that is not too large, some measure, at most two donors.
-#[derive(Drop)]
+#[derive(Clone, Copy)]
 pub enum Rule {
     OneHeld,
     SmallSum,

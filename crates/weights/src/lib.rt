@@ -12,7 +12,7 @@ mod picking;
 pub use picking::pick_lift;
 
 // Sums over a round: of its new measures (S), and of the old measures that donor 1 and donor 2 sent (U).
-#[derive(Drop)]
+#[derive(Clone, Copy)]
 pub struct Sums {
     pub new: u64,
     pub first: u64,
@@ -21,7 +21,7 @@ pub struct Sums {
 
 // Multipliers that give weights: of new measures, and of the old measures of donor 1 and donor 2. Of the values below `new`,
 // `odds` make donor 1's lift preliminary where both donors' lifts are held here.
-#[derive(Drop)]
+#[derive(Clone, Copy)]
 pub struct Scale {
     pub new: u64,
     pub first: u64,
