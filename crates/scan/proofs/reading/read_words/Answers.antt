@@ -1,5 +1,4 @@
 use native.Mathlib.Omega.{arith}
-use Prim.Native.Nat.{◌-◌}
 use mathlib.Core.Path.{refl}
 use Rattle.scan.proofs.Readings.{stops, goes_on, one_more, goes_on_three, ends, stays_open}
 use Rattle.scan.proofs.reading.read_words.Goals as goal
