@@ -25,7 +25,7 @@ pub enum Way {
 
 // The choices by round: the lift's number and the outcome, both 0 where there is none; and the next position; or the round in which the
 // words ended, 0 if they did not.
-#[derive(Drop)]
+#[derive(Clone, Copy)]
 pub struct Picks {
     pub numbers: [u32; Sheet::TABLE],
     pub outcomes: [u32; Sheet::TABLE],

@@ -95,7 +95,7 @@ impl Refusal {
 }
 
 // The answer of a call: refused; or how many choices it made or lines it took, and how many random words it read.
-#[derive(Drop)]
+#[derive(Clone, Copy)]
 pub enum Answer {
     Refused(Refusal),
     Done(usize, usize),

@@ -5,7 +5,7 @@ ghost use Rattle.sheet.specs.Sheet.{kind as kind_of, payload as payload_of, plac
 use reply::Refusal;
 
 // A sheet that fits: how many lifts and how many new rounds it has.
-#[derive(Drop)]
+#[derive(Clone, Copy)]
 pub struct Sheet {
     pub lifts: usize,
     pub rounds: usize,

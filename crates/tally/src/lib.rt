@@ -3,7 +3,7 @@ use reply::Refusal;
 use sheet::Sheet;
 
 // The answer to a sheet.
-#[derive(Drop)]
+#[derive(Clone, Copy)]
 pub enum Checked {
     Refused(Refusal),
     Fits(Sheet),
@@ -20,7 +20,7 @@ pub enum Rule {
 
 // Tables by round. For each old round: how many lifts it has, how many of them are held, and its sum. For each new round: how many
 // lifts it has, its sum, and two words with a bit for each old round that is a donor.
-#[derive(Drop)]
+#[derive(Clone, Copy)]
 pub struct Tallies {
     pub old_lifts: [u64; Sheet::TABLE],
     pub held: [u64; Sheet::TABLE],
@@ -31,7 +31,7 @@ pub struct Tallies {
 }
 
 // The answer to a sheet, and its tables.
-#[derive(Drop)]
+#[derive(Clone, Copy)]
 pub struct Examined {
     pub checked: Checked,
     pub tallies: Tallies,
