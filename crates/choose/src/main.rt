@@ -1,13 +1,17 @@
 // The program of document 01: it reads sheet.bin and words.bin in the current folder and prints the text of their bytes.
+#![tactic(auto)]
+
 ghost use Rattle.std.specs.Prelude.{◌*◌, ◌≤◌, min, ◌≡◌, length};
-ghost use Rattle.io.specs.Counts.{IsPrefixLen};
+ghost use Rattle.std.specs.Counts.{IsPrefixLen};
 ghost use Rattle.sheet.specs.Sheet.{longest};
 ghost use Rattle.report.specs.Report.{most_words};
 ghost use Rattle.choose.specs.Reading.{ReadsAtMost, Extends};
 ghost use Rattle.choose.specs.Printing.{Printed};
 
-use libc::STDOUT_FILENO;
 use sheet::Sheet;
+use std::fs::File;
+use std::io::{ErrorKind, Read};
+use std::rt::Files;
 
 // How many bytes of a sheet decide its text.
 const SHEET_BYTES: usize = 4 * Sheet::LONGEST;
@@ -18,12 +22,12 @@ const MOST_COUNTED: usize = usize::MAX - 65536;
 // How often a read is tried again when signals interrupt it.
 const MOST_TRIES: usize = 1000;
 
-fn main() {
+fn main(rt: HostRuntime) {
     let mut sheet = [0u8; SHEET_BYTES];
-    let extent = read_whole(b"sheet.bin", &mut sheet);
+    let extent = read_whole(&rt, "sheet.bin", &mut sheet);
     let mut words = [0u8; report::WORDS_BYTES];
-    let count = read_start(b"words.bin", &mut words);
-    print_report(&sheet, extent, &words, count);
+    let count = read_start(&rt, "words.bin", &mut words);
+    print_report(&rt, &sheet, extent, &words, count);
 }
 
 // ---- the files
@@ -46,36 +50,30 @@ struct Extent {
 const EMPTY: Extent = Extent { kept: 0, size: 0 };
 
 // The first bytes of a file, as many as fit, and how many these are; a file that cannot be read counts as empty.
-fn read_start(path: &[u8], bytes: &mut [u8]) -> usize
+fn read_start(rt: &impl Files, path: &str, bytes: &mut [u8]) -> usize
     ensures { IsPrefixLen result bytes.new }
 {
-    let file = os::open_read(path);
-    if file < 0 {
+    let Ok(mut file) = File::open(rt, path) else {
         return 0;
-    }
-    let got = fill(file, bytes);
-    libc::close(file);
-    match got {
+    };
+    match fill(&mut file, bytes) {
         Got::Bytes(n) => n,
         Got::Failed => 0,
     }
 }
 
 // The first bytes of a file, as many as fit, and how many it has in all; a file that cannot be read counts as empty.
-fn read_whole(path: &[u8], bytes: &mut [u8]) -> Extent
+fn read_whole(rt: &impl Files, path: &str, bytes: &mut [u8]) -> Extent
     ensures { result.kept ≡ min result.size (length bytes.new) }
 {
-    let file = os::open_read(path);
-    if file < 0 {
+    let Ok(mut file) = File::open(rt, path) else {
         return EMPTY;
-    }
-    let extent = read_all(file, bytes);
-    libc::close(file);
-    extent
+    };
+    read_all(&mut file, bytes)
 }
 
 // Reads until the file ends, and keeps as many bytes as fit; a file that fails counts as empty.
-fn read_all(file: i32, bytes: &mut [u8]) -> Extent
+fn read_all(file: &mut impl Read, bytes: &mut [u8]) -> Extent
     ensures { result.kept ≡ min result.size (length bytes.new) }
 {
     let start = fill(file, bytes);
@@ -90,7 +88,7 @@ fn read_all(file: i32, bytes: &mut [u8]) -> Extent
 }
 
 // Reads until the bytes are full or the file ends.
-fn fill(file: i32, bytes: &mut [u8]) -> Got
+fn fill(file: &mut impl Read, bytes: &mut [u8]) -> Got
     ensures { ReadsAtMost (length bytes.new) result }
 {
     let mut done = 0;
@@ -112,7 +110,7 @@ fn fill(file: i32, bytes: &mut [u8]) -> Got
 }
 
 // Counts on to the end of the file, from what was kept of it; where room was left for more, that is all of it.
-fn count_on(file: i32, kept: usize, room: usize) -> Got
+fn count_on(file: &mut impl Read, kept: usize, room: usize) -> Got
     requires { kept ≤ room }
     ensures { Extends kept room result }
 {
@@ -138,25 +136,28 @@ fn count_on(file: i32, kept: usize, room: usize) -> Got
 }
 
 // Reads a piece that nothing keeps.
-fn read_piece(file: i32) -> Got
+fn read_piece(file: &mut impl Read) -> Got
     ensures { ReadsAtMost 65536 result }
 {
-    let mut piece = io::large_buffer();
+    let mut piece = [0u8; 65536];
     read_some(file, &mut piece)
 }
 
 // Reads once; a read that a signal interrupts is tried again.
-fn read_some(file: i32, bytes: &mut [u8]) -> Got
+fn read_some(file: &mut impl Read, bytes: &mut [u8]) -> Got
     ensures { ReadsAtMost (length bytes.old) result }
 {
     let mut tries = 0;
     while tries < MOST_TRIES {
-        let got = libc::read(file, bytes);
-        if 0 <= got {
-            return Got::Bytes(io::count(got, bytes));
-        }
-        if os::errno() != libc::EINTR {
-            return Got::Failed;
+        match file.read(bytes) {
+            Ok(n) => {
+                return Got::Bytes(n);
+            }
+            Err(error) => {
+                if error.kind() != ErrorKind::Interrupted {
+                    return Got::Failed;
+                }
+            }
         }
         tries += 1;
     }
@@ -166,7 +167,13 @@ fn read_some(file: i32, bytes: &mut [u8]) -> Got
 // ---- the text
 
 // Prints the text of what was read into both buffers, each of which has room for all bytes that decide it.
-fn print_report(sheet: &[u8], extent: Extent, words: &[u8], count: usize)
+fn print_report(
+    rt: &(impl Print + Eprint),
+    sheet: &[u8],
+    extent: Extent,
+    words: &[u8],
+    count: usize,
+)
     requires sheet_len { length sheet.now ≡ 4 * longest }
     requires kept_value { extent.kept ≡ min extent.size (length sheet.now) }
     requires words_len { length words.now ≡ 8 * most_words }
@@ -176,14 +183,21 @@ fn print_report(sheet: &[u8], extent: Extent, words: &[u8], count: usize)
     let size = extent.size;
     let mut text = [0u8; report::TEXT_ROOM];
     let n = report::report(&sheet[..kept], size, &words[..count], &mut text);
-    print(&text[..n], sheet, extent, words, count);
+    print(rt, &text[..n], sheet, extent, words, count);
 }
 
 // Prints a text that must be that of what was read into both buffers, and of the whole files.
-fn print(text: &[u8], sheet: &[u8], extent: Extent, words: &[u8], count: usize)
+fn print(
+    rt: &(impl Print + Eprint),
+    text: &[u8],
+    sheet: &[u8],
+    extent: Extent,
+    words: &[u8],
+    count: usize,
+)
     requires { Printed text.now sheet.now extent words.now count }
 {
-    if !io::write_all(STDOUT_FILENO, text) {
-        os::fail(b"standard output");
+    if let Err(error) = rt.write_all(text) {
+        let _ = eprintln!(rt; "standard output: {error}");
     }
 }
