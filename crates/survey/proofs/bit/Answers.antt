@@ -10,9 +10,7 @@ use borrow.Author.Tests.{ltb-true, ltb-false}
 use Rattle.probability.specs.Sum.{indicator}
 use Rattle.tally.specs.Tables.{bit_of}
 use Rattle.tally.proofs.Bits.{bit_none, bit_one}
-use borrow.Author.Rules.{rules}
-use Rattle.survey.proofs.bit.Statement.{statement}
-use Rattle.survey.proofs.bit.Tie as tie
+use Rattle.survey.proofs.bit.Goals as goal
 
 -- a bit or none, shifted to its place
 shifted : (round measure : ℕ) → indicator (ltb 0 measure) * 2 ^ (round % 64) % 2 ^ 64 ≡ bit_of round measure
@@ -22,19 +20,5 @@ shifted round measure = go (ltb 0 measure) refl
     go true e = shl_exact 1 (round % 64) 64 (omega arith) (omega arith) ∙ one-mul (2 ^ (round % 64)) ∙ sym (bit_one 64 (round % 64) measure (omega arith) (ltb-true 0 measure e))
     go false e = rw (zero-mul (2 ^ (round % 64))) (sym (bit_none 64 (round % 64) measure (omega (arith, ltb-false 0 measure e))))
 
-flag-requires : tie.Need-flag-requires
-flag-requires c κs = search rules
-
-shl-result : tie.Need-overflow-shl-result
-shl-result c = search rules
-
-returns : tie.Need-returns
-returns c = rw c.flag.ensures (shifted c.before.args.round c.before.args.measure)
-
-pub bit-spec : {M : Type 1} → statement M
-bit-spec =
-    tie.close
-    (tie.spec
-    flag-requires
-    shl-result
-    returns)
+pub returns : goal.returns
+returns c = rw c.flag.ensures (shifted c.args.round c.args.measure)
