@@ -1,4 +1,6 @@
 // One draw below a bound from a list of random words ("chance words" of document 01).
+#![tactic(auto)]
+
 ghost use Rattle.std.specs.Prelude.{◌≡◌, ◌≤◌};
 ghost use Rattle.draw.specs.Draw.{largest, draw_at, ExactlyK};
 

@@ -1,4 +1,6 @@
 // The fourth procedure of document 002 for one round, with Keyfitz's update: which of its lifts is to carry the recorder, from random words.
+#![tactic(auto)]
+
 ghost use Rattle.std.specs.Prelude.{◌≡◌, cond, [], ◌∷◌, map, ◌≤◌, ◌<◌, ltb, length};
 ghost use Rattle.probability.specs.Plan.{done, draw as draw_of};
 ghost use Rattle.draw.specs.Draw.{largest};

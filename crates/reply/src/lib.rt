@@ -1,5 +1,7 @@
 // What a call answers: every refusal with its number and place, and the reply ("The reply", "Refused because of the sheet" and "Refused
 // because of what was lent" of document 01, with those of document 02).
+#![tactic(auto)]
+
 ghost use Rattle.std.specs.Prelude.{◌≡◌};
 ghost use Rattle.reply.specs.Refusal.{refusal_of, reply_of};
 

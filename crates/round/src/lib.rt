@@ -1,5 +1,6 @@
 // One round ("One round" of document 01): the types of its donors, held lifts, lifts and choice. A round is lent as rows in lift order, one
 // for each lift, of four numbers: one that is the caller's, donor (1 or 2, 0 for none), old measure and new measure.
+#![tactic(auto)]
 
 // The donors of a round, with their whole old sums T.
 #[derive(Clone, Copy)]

@@ -36,7 +36,7 @@ once key t {a} (Memᴰ.head {x = x} {xs = ls} e) n d =
     rw (e, eq-eqb x.number x.number refl)
     (ap (λ n. cond (eqb (key x) t) 1 0 + n)
     (total_by_none key t (λ l. indicator (eqb a.number l.number)) ls
-        (λ l m _. ap indicator (ne_eqb a.number l.number (λ q. omega (arith, (proper x.number ls d.1 l m).rises, ap (λ y. y.number) e)))))
+    (λ l m _. ap indicator (ne_eqb a.number l.number (λ q. omega (arith, (proper x.number ls d.1 l m).rises, ap (λ y. y.number) e)))))
     ∙ add-zero _)
 once key t {a} (Memᴰ.tail {x = x} {xs = ls} h) n d =
     rw (ne_eqb a.number x.number (λ q. omega (arith, (proper x.number ls d.1 a h).rises)))

@@ -1,4 +1,6 @@
 // The sheet ("The sheet" of document 01): its bounds, its words and their parts, and the types of what is read from them.
+#![tactic(auto)]
+
 ghost use Rattle.std.specs.Prelude.{◌≡◌, ◌+◌, ◌*◌, ◌^◌, ◌<◌};
 ghost use Rattle.sheet.specs.Sheet.{kind as kind_of, payload as payload_of, place_of, word as word_of};
 

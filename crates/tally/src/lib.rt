@@ -1,4 +1,6 @@
 // The rounds of a sheet ("Refused because of the sheet" of document 01): the types of their tables, and of the verdict on a sheet.
+#![tactic(auto)]
+
 use reply::Refusal;
 use sheet::Sheet;
 

@@ -1,4 +1,6 @@
 // The weights of a round's lifts: their growths, the sums that the choice goes by, and the multipliers that give the weights.
+#![tactic(auto)]
+
 ghost use Rattle.std.specs.Prelude.{◌≡◌, List, map, ◌^◌, ◌≤◌, ◌<◌, length};
 ghost use Rattle.std.proofs.Math.Seq.{slice};
 ghost use Rattle.round.specs.Round.{lift_at, U, measure_from as sent_of, growth, G, WellPosed};

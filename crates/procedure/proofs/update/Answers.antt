@@ -1,5 +1,4 @@
 -- `procedure::update` meets its contract: one law for each way out; where the lift may be dropped, the growths have a sum above 0. Assumes nothing.
-use borrow.Author.Rules.{rules}
 use Rattle.round.specs.Rows.{row_lifts}
 use Rattle.weights.proofs.Loops.{SumKept, old_fits, new_fits, moves_G}
 use Rattle.procedure.proofs.Answers.{stays, kept, moved, update_short}

@@ -1,5 +1,4 @@
 use native.Mathlib.Nat.{le_of_eq}
-use Prim.Native.Nat.{◌-◌}
 use Rattle.weights.proofs.Loops.{came_none, sum_turn, sum_fits, sum_end}
 use Rattle.weights.proofs.donated.Goals as goal
 

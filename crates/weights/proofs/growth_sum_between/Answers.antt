@@ -1,4 +1,3 @@
-use Prim.Native.Nat.{◌-◌}
 use Rattle.weights.proofs.Loops.{reach_none, sum_turn, sum_fits, sum_end, G_room, read_room}
 use Rattle.weights.proofs.growth_sum_between.Goals as goal
 

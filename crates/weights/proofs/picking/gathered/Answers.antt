@@ -1,4 +1,3 @@
-use Prim.Native.Nat.{◌-◌}
 use Rattle.weights.proofs.Loops.{gather_none, gather_turn, gather_end}
 use Rattle.weights.proofs.picking.gathered.Goals as goal
 

@@ -1,5 +1,4 @@
 use native.Mathlib.Omega.{arith}
-use borrow.Author.Rules.{rules}
 use Rattle.weights.proofs.Loops.{pick_none, seek_turn, seek_here, seek_end, lift_room}
 use Rattle.weights.proofs.picking.pick.Goals as goal
 

@@ -1,4 +1,3 @@
-use Prim.Native.Nat.{◌-◌}
 use Rattle.weights.proofs.Loops.{pick_none, pick_end, block_less, block_from, block_inside, block_short, block_turn, block_fits, block_here, block_room}
 use Rattle.weights.proofs.picking.pick_lift.Goals as goal
 
