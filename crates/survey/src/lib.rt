@@ -1,4 +1,6 @@
 // The tables of a sheet by round, gathered in one walk, and the verdict on a sheet from them ("Refused because of the sheet" of document 01).
+#![tactic(auto)]
+
 ghost use Rattle.std.specs.Prelude.{◌≡◌, List, [], ℕ, ◌+◌, ltb, length, get_or};
 ghost use Rattle.std.specs.Int.Count.{ones};
 ghost use Rattle.probability.specs.Sum.{indicator};

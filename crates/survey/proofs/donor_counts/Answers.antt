@@ -1,4 +1,3 @@
-use Prim.Native.Nat.{◌-◌}
 use mathlib.Core.Path.{refl}
 use Rattle.tally.proofs.Filling.{filled_none, filled_turn, filled_end}
 use Rattle.survey.proofs.donor_counts.Goals as goal

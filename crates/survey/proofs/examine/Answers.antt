@@ -14,7 +14,7 @@ pub survey-tallies-requires : goal.survey-tallies-requires
 survey-tallies-requires c = legible (goal.at.survey-tallies-requires c).In-Sound
 
 pub check_rounds-requires : goal.check_rounds-requires
-check_rounds-requires c = (legible (goal.at.check_rounds-requires c).In-Sound, c.survey-tallies.ensures)
+check_rounds-requires c = record { legible = legible (goal.at.check_rounds-requires c).In-Sound; tabled = c.survey-tallies.ensures }
 
 pub returns-in-Faulty : goal.returns-in-Faulty
 returns-in-Faulty c = answered_refused c.refuse.ensures (at_word _ _ (sym (ap reading_of c.in-Faulty.is) ∙ c.read.ensures))

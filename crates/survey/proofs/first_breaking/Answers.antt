@@ -1,4 +1,3 @@
-use Prim.Native.Nat.{◌-◌}
 use Rattle.tally.proofs.Ranges.{sought_none, sought_turn}
 use Rattle.survey.proofs.Searches.{found, missed}
 use Rattle.survey.proofs.first_breaking.Goals as goal

@@ -1,5 +1,4 @@
 use native.Mathlib.Omega.{arith}
-use Prim.Native.Nat.{◌-◌}
 use Rattle.survey.proofs.Searches.{counted_none, counted_turn, counted_end}
 use Rattle.survey.proofs.in_use.Goals as goal
 

@@ -1,5 +1,5 @@
 use native.Mathlib.Omega.{arith}
-use Prim.Native.Nat.{◌+◌, ◌*◌, ◌-◌, ◌/◌, ◌<◌}
+use Prim.Native.Nat.{◌+◌, ◌*◌, ◌/◌, ◌<◌}
 use lib.ListN.{length}
 use Rattle.sheet.specs.Sheet.{most_rounds}
 use Rattle.sheet.proofs.Walks.{between_none, turn, inside}
@@ -7,23 +7,26 @@ use Rattle.survey.proofs.Surveys.{surveyed_none, from_lt, to_lt, word_lt, old_li
 use Rattle.survey.proofs.survey.Goals as goal
 use Rattle.survey.proofs.survey.Goals.{After-bit-bit, In-loop-i}
 
--- there is a lift
+-- there is a lift, where it is read and behind it
 more : (c : In-loop-i) → c.loop-i.i + 1 < length c.args.sheet.now
 more c = omega (arith, c.loop-i-test.true)
 
+reached : (c : After-bit-bit) → c.loop-i.i + 1 < length c.args.sheet.now
+reached c = omega (arith, c.loop-i-test.true)
+
 -- its rounds and its word of donors
 from : (c : After-bit-bit) → c.entry_at-l.result.from < most_rounds + 1
-from c = from_lt c.loop-i.invariant (more ⟪In-loop-i⟫) c.entry_at-l.ensures
+from c = from_lt c.loop-i.invariant (reached c) c.entry_at-l.ensures
 
 to : (c : After-bit-bit) → c.entry_at-l.result.to < most_rounds + 1
-to c = to_lt c.loop-i.invariant (more ⟪In-loop-i⟫) c.entry_at-l.ensures
+to c = to_lt c.loop-i.invariant (reached c) c.entry_at-l.ensures
 
 word : (c : After-bit-bit) → 2 * c.entry_at-l.result.to + c.entry_at-l.result.from / 64 < 2 * (most_rounds + 1)
-word c = word_lt c.loop-i.invariant (more ⟪In-loop-i⟫) c.entry_at-l.ensures
+word c = word_lt c.loop-i.invariant (reached c) c.entry_at-l.ensures
 
 -- there are three words behind its first
 room : (c : After-bit-bit) → c.loop-i.i + 3 < length c.args.sheet.now
-room c = (turn c.loop-i.invariant.held.between (more ⟪In-loop-i⟫)).room
+room c = (turn c.loop-i.invariant.held.between (reached c)).room
 
 pub overflow_sub-last : goal.overflow_sub-last
 overflow_sub-last c = omega (arith, inside (between_none c.requires))
@@ -32,7 +35,7 @@ pub loop-i-init : goal.loop-i-init
 loop-i-init c = surveyed_none c.requires
 
 pub entry_at-l-requires : goal.entry_at-l-requires
-entry_at-l-requires c = let l = turn c.loop-i.invariant.held.between (more (goal.at.entry_at-l-requires c).In-loop-i) in (l.room, l.marked)
+entry_at-l-requires c = let l = turn c.loop-i.invariant.held.between (more (goal.at.entry_at-l-requires c).In-loop-i) in record { i_in_bounds = l.room; mark_sound = l.marked }
 
 pub overflow_mul-word : goal.overflow_mul-word
 overflow_mul-word c = omega (arith, to_lt c.loop-i.invariant (more (goal.at.overflow_mul-word c).In-loop-i) c.entry_at-l.ensures)

@@ -6,7 +6,7 @@ pub returns-in-Refused : goal.returns-in-Refused
 returns-in-Refused c = λ ws a. still_refused a c.in-Refused.is
 
 pub returns-in-At : goal.returns-in-At
-returns-in-At c = λ ws a. at_too_many_donors a c.⟪enum-told2⟫.given.1 c.⟪donor-counts⟫.ensures c.first_breaking.ensures c.in-At.is
+returns-in-At c = λ ws a. at_too_many_donors a c.in-Fits.is c.donor_counts-donors.ensures c.first_breaking.ensures c.in-At.is
 
 pub returns-in-Nothing : goal.returns-in-Nothing
-returns-in-Nothing c = λ ws a. still_fits a c.⟪enum-told2⟫.given.1 c.⟪donor-counts⟫.ensures c.first_breaking.ensures c.in-Nothing.is
+returns-in-Nothing c = λ ws a. still_fits a c.in-Fits.is c.donor_counts-donors.ensures c.first_breaking.ensures c.in-Nothing.is
