@@ -1,4 +1,6 @@
 // Next quarter's sheet, written from a sheet and its choices (Card 3 of document 02).
+#![tactic(auto)]
+
 ghost use Rattle.std.specs.Prelude.{◌≡◌, ◌+◌, ◌≤◌, ◌<◌, length, drop};
 ghost use Rattle.std.proofs.lemmas.List.Edits.{sets};
 ghost use Rattle.sheet.specs.Sheet.{most_rounds, old_kind, new_kind, lift_of, lifts as lifts_of_sheet, place_word, sheet_of};

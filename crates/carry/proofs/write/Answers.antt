@@ -1,4 +1,4 @@
-use Prim.Native.Nat.{◌+◌, ◌-◌, ◌≤◌, ◌<◌}
+use Prim.Native.Nat.{◌+◌, ◌≤◌, ◌<◌}
 use mathlib.Core.Path.{refl, ◌∙◌}
 use lib.ListN.{length, drop, length-set}
 use Rattle.sheet.specs.Sheet.{most_lifts, lift_of}
@@ -21,7 +21,7 @@ next_fits c = words_fit (in_table c.args.chosen.now) c.loop-i.invariant c.requir
 
 -- the next position
 further : (c : After-marks) → c.loop-i.i + (3 + c.marks.result) ≤ length c.args.sheet.now
-further c = moved (lift ⟪In-loop-i⟫) c.marks.ensures
+further c = moved (turn c.loop-i.invariant.between c.loop-i-test.true) c.marks.ensures
 
 -- how many lifts remain
 few : (c : After-loop-i) → c.args.lifts ≤ most_lifts
@@ -38,7 +38,7 @@ pub overflow_add-i : goal.overflow_add-i
 overflow_add-i c = omega (arith, inside c.loop-i.invariant.between, c.requires.legible.short)
 
 pub write_lift-at-requires : goal.write_lift-at-requires
-write_lift-at-requires c = let l = lift (goal.at.write_lift-at-requires c).In-loop-i in (l.room, (l.marked, (l.new.round, next_fits (goal.at.write_lift-at-requires c).In-loop-i)))
+write_lift-at-requires c = let l = lift (goal.at.write_lift-at-requires c).In-loop-i in record { i_in_bounds = l.room; mark_sound = l.marked; sheet_bound = l.new.round; sheet_in_bounds = next_fits (goal.at.write_lift-at-requires c).In-loop-i }
 
 pub marks-requires : goal.marks-requires
 marks-requires c = (lift (goal.at.marks-requires c).In-loop-i).room
@@ -59,7 +59,7 @@ pub overflow_cast-lifts : goal.overflow_cast-lifts
 overflow_cast-lifts c = omega (arith, few (goal.at.overflow_cast-lifts c).After-loop-i)
 
 pub word-requires : goal.word-requires
-word-requires c = (search rules, omega (arith, few (goal.at.word-requires c).After-loop-i))
+word-requires c = record { kind_bound = search rules; payload_bound = omega (arith, few (goal.at.word-requires c).After-loop-i) }
 
 pub offset_bounds-next-at : goal.offset_bounds-next-at
 offset_bounds-next-at c = omega (arith, end_room (goal.at.offset_bounds-next-at c).After-loop-i)
