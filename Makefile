@@ -24,9 +24,11 @@ bench: archive
 program:
 	@mkdir -p target
 	@echo 'proving and building the program: some minutes the first time, then at once' >&2
-	@rt check choose >target/program.log 2>&1 || { cat target/program.log; exit 1; }
+	@(cd crates/choose && rt run) >target/program.log 2>&1 </dev/null || { cat target/program.log; exit 1; }
+	@install -D -m 755 crates/choose/out/choose target/bin/choose
 
 archive:
 	@mkdir -p target
-	@echo 'proving and building the archive: some minutes the first time, then at once' >&2
-	@rt staticlib exports >target/archive.log 2>&1 || { cat target/archive.log; exit 1; }
+	@echo 'proving and building the archive: some minutes the first time, then seconds' >&2
+	@(cd crates/exports && rt lib) >target/archive.log 2>&1 </dev/null || { cat target/archive.log; exit 1; }
+	@cmp -s crates/exports/out/libexports.a target/staticlib/libexports.a || install -D -m 644 crates/exports/out/libexports.a target/staticlib/libexports.a

@@ -11,7 +11,7 @@ use std::process::{self, Command, Output, Stdio};
 use std::sync::atomic::{AtomicUsize, Ordering};
 use std::{env, iter};
 
-/// The program, as `rt check` and `rt ci` leave it.
+/// The program, as `make program` and the gate leave it.
 const PROGRAM: &str = concat!(env!("CARGO_MANIFEST_DIR"), "/../target/bin/choose");
 
 /// How many random words the program reads.
@@ -53,7 +53,7 @@ impl Drop for Folder {
 fn run_in(folder: &Path, standard_output: Stdio) -> Output {
     assert!(
         Path::new(PROGRAM).is_file(),
-        "{PROGRAM} is missing: run `rt check choose`"
+        "{PROGRAM} is missing: run `make program`"
     );
     let mut program = Command::new(PROGRAM);
     program.current_dir(folder).stdin(Stdio::null());
