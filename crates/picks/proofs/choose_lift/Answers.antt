@@ -10,7 +10,7 @@ pub returns-then-rows-eq0 : goal.returns-then-rows-eq0
 returns-then-rows-eq0 c = rw (eq-eqb _ _ c.if-rows-eq0.true)
 
 pub select_by-requires : goal.select_by-requires
-select_by-requires c = let p = c.requires.?? in record { callable = p.0 (omega (arith, c.if-rows-eq0.false)); has_sums = p.1 }
+select_by-requires c = record { callable = c.requires.callable (omega (arith, c.if-rows-eq0.false)); has_sums = c.requires.has_sums }
 
 pub returns-in-At : goal.returns-in-At
 returns-in-At c = let a = c.args in

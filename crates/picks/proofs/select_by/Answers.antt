@@ -10,7 +10,7 @@ only_fourth : (way : Way) → update_of way ≡ keyfitz
 only_fourth Fourth = refl
 
 pub select-requires : goal.select-requires
-select-requires c = let p = c.requires.?? in record { callable = p.0; has_sums = p.1 }
+select-requires c = record { callable = c.requires.callable; has_sums = c.requires.has_sums }
 
 pub returns : goal.returns
 returns c = rw (only_fourth c.args.way) c.select.ensures

@@ -8,11 +8,12 @@ use Rattle.picks.proofs.Choosing.{going_none, going_end, on_passed, on_chosen, o
 use Rattle.picks.proofs.select_rounds.Goals as goal
 
 pub lay_out-x-requires : goal.lay_out-x-requires
-lay_out-x-requires c = let p = c.requires.?? in record { fitting = p.0.0; tabled = p.0.1; rows_len = p.1 }
+lay_out-x-requires c = record { fitting = c.requires.fitting.0; tabled = c.requires.fitting.1; rows_len = c.requires.rows_len }
 
 pub loop-r-init : goal.loop-r-init
-loop-r-init c = let p = c.requires.?? in
-    (record { fit = fit p.0.0; long = omega (arith, c.rows-1.given, p.1); laid = c.lay_out-x.ensures; old_sums = p.0.1.old_sums; new_sums = p.0.1.new_sums }, going_none _ _ _ _)
+loop-r-init c = 
+    let p = c.requires.fitting in
+    (record { fit = fit p.0; long = omega (arith, c.rows-1.given, c.requires.rows_len); laid = c.lay_out-x.ensures; old_sums = p.1.old_sums; new_sums = p.1.new_sums }, going_none _ _ _ _)
 
 pub overflow_mul-begin : goal.overflow_mul-begin
 overflow_mul-begin c = omega (arith, rises c.loop-r.invariant.0 c.loop-r.invariant.1.low c.loop-r-test.true, few c.loop-r.invariant.0 c.loop-r.invariant.1.low c.loop-r-test.true)
