@@ -1,4 +1,6 @@
 // The monitoring centre's counts taken into a sheet (Card 1 of document 02).
+#![tactic(auto)]
+
 ghost use Rattle.std.specs.Prelude.{◌≡◌, ℕ, ◌+◌, ◌≤◌, length, get_or, replicate};
 ghost use Rattle.reply.specs.Reply.{replied, unless_refused};
 ghost use Rattle.reply.specs.Refusal.{reply_of};

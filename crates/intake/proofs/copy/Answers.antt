@@ -1,5 +1,4 @@
 use mathlib.Core.Path.{refl}
-use Prim.Native.Nat.{◌-◌}
 use Rattle.intake.proofs.Renewing.{copying_none, copying_turn, copying_end}
 use Rattle.intake.proofs.copy.Goals as goal
 

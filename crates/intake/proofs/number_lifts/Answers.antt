@@ -1,4 +1,3 @@
-use Prim.Native.Nat.{◌-◌}
 use mathlib.Core.Path.{refl, sym, ap, ◌∙◌}
 use Rattle.sheet.proofs.Walks.{moved}
 use Rattle.intake.proofs.Renewing.{numbering_none, numbering_at, numbering_turn, numbering_end}

@@ -11,10 +11,7 @@ pub copy-requires : goal.copy-requires
 copy-requires c = c.requires.words_len
 
 pub put-requires : goal.put-requires
-put-requires c = (subst Legible (sym c.copy.ensures) c.requires.legible, (subst (λ ws. length c.args.measures.now ≡ length (lifts ws)) (sym c.copy.ensures) c.requires.measures_len, c.requires.by_index))
-
-pub shape_of-words : goal.shape_of-words
-shape_of-words c = c.words-2-1.given ∙ c.words-1.given
+put-requires c = record { legible = subst Legible (sym c.copy.ensures) c.requires.legible; measures_len = subst (λ ws. length c.args.measures.now ≡ length (lifts ws)) (sym c.copy.ensures) c.requires.measures_len; by_index = c.requires.by_index }
 
 pub returns : goal.returns
 returns c = let w = c.put.ensures ∙ ap (λ ws. sheet_of (lifts_with (lifts ws) c.args.measures.now)) c.copy.ensures in record { words = w; said = c.check.ensures ∙ ap verdict w }

@@ -10,4 +10,4 @@ pub returns-in-Faulty : goal.returns-in-Faulty
 returns-in-Faulty c = let e = at_word c.args.sheet.now c.args.text.now c.read.ensures c.in-Faulty.is in record { replied = e.0; written = e.1; taken = takes _ _ }
 
 pub returns-in-Sound : goal.returns-in-Sound
-returns-in-Sound c = let e = c.take_legible.ensures.?? in record { replied = e.0; written = e.1; taken = takes _ _ }
+returns-in-Sound c = let e = c.take_legible.ensures in record { replied = e.replied; written = e.written; taken = takes _ _ }

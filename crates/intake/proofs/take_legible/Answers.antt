@@ -9,22 +9,19 @@ pub slice_bounds-numbers-end : goal.slice_bounds-numbers-end
 slice_bounds-numbers-end c = few c.requires c.size-n.ensures
 
 pub slice_bounds-take_lines-end : goal.slice_bounds-take_lines-end
-slice_bounds-take_lines-end c = sym (length-take-le _ _ (array-borrow-prefix-numbers (goal.at.slice_bounds-take_lines-end c).After-take_lines-arg-1))
+slice_bounds-take_lines-end c = sym (length-take-le _ _ (few c.requires c.size-n.ensures))
 
 pub slice_bounds-measures-end : goal.slice_bounds-measures-end
 slice_bounds-measures-end c = few c.requires c.size-n.ensures
 
 pub slice_bounds-take_lines-end-2 : goal.slice_bounds-take_lines-end-2
-slice_bounds-take_lines-end-2 c = sym (length-take-le _ _ (array-borrow-prefix-measures (goal.at.slice_bounds-take_lines-end-2 c).After-numbers-1))
+slice_bounds-take_lines-end-2 c = sym (length-take-le _ _ (few c.requires c.size-n.ensures))
 
 pub slice_bounds-words-end : goal.slice_bounds-words-end
 slice_bounds-words-end c = c.requires.short
 
 pub slice_bounds-take_lines-end-3 : goal.slice_bounds-take_lines-end-3
-slice_bounds-take_lines-end-3 c = sym (length-take-le _ _ (array-borrow-prefix-words (goal.at.slice_bounds-take_lines-end-3 c).After-measures-1))
+slice_bounds-take_lines-end-3 c = sym (length-take-le _ _ c.requires.short)
 
 pub take_lines-requires : goal.take_lines-requires
-take_lines-requires c = record { legible = c.requires; numbers_len = length-take-le _ _ (array-borrow-prefix-numbers (goal.at.take_lines-requires c).After-take_lines-arg-1) ∙ c.size-n.ensures; measures_value = zeros 4096 _ (array-borrow-prefix-measures (goal.at.take_lines-requires c).After-numbers-1) ∙ ap (λ n. replicate n 0) c.size-n.ensures; words_len = length-take-le _ _ (array-borrow-prefix-words (goal.at.take_lines-requires c).After-measures-1) }
-
-pub returns : goal.returns
-returns c = let p = c.take_lines.ensures.?? in record { replied = p.0; written = p.1 }
+take_lines-requires c = record { legible = c.requires; numbers_len = length-take-le _ _ (few c.requires c.size-n.ensures) ∙ c.size-n.ensures; measures_value = zeros 4096 _ (few c.requires c.size-n.ensures) ∙ ap (λ n. replicate n 0) c.size-n.ensures; words_len = length-take-le _ _ c.requires.short }

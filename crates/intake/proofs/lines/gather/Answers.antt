@@ -1,4 +1,3 @@
-use Prim.Native.Nat.{◌-◌}
 use mathlib.Core.Path.{refl}
 use Rattle.intake.proofs.Slots.{kept_none, kept_length, kept_same, kept_end, kept_malformed, kept_small, kept_lift, kept_less, kept_absent, kept_place, kept_had, kept_turn}
 use native.Mathlib.Omega.{arith}
