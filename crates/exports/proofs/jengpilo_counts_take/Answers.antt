@@ -3,4 +3,4 @@ use mathlib.Core.Path.{◌∙◌}
 use Rattle.exports.proofs.jengpilo_counts_take.Goals as goal
 
 pub returns : goal.returns
-returns c = let e = c.take-answer.ensures in record { replied = c.write_reply.ensures ∙ e.0; written = e.1.0 }
+returns c = let e = c.take-answer.ensures in record { replied = c.write_reply.ensures ∙ e.replied; written = e.written }

@@ -3,4 +3,4 @@ use mathlib.Core.Path.{◌∙◌}
 use Rattle.exports.proofs.jengpilo_panel_choose_next.Goals as goal
 
 pub returns : goal.returns
-returns c = let e = c.choose_next-answer.ensures in record { replied = c.write_reply.ensures ∙ e.0; written = e.1.0; carried = e.1.1.0 }
+returns c = let e = c.choose_next-answer.ensures in record { replied = c.write_reply.ensures ∙ e.replied; written = e.written; carried = e.carried }

@@ -18,7 +18,7 @@ select-requires c = record { callable = callable (goal.at.select-requires c).Aft
 pub returns-in-At : goal.returns-in-At
 returns-in-At c = let h = c.held_from-here.ensures in
     chose_at _ (sym c.in-At.is ∙ answer_by_enums _ _ _ _ _ c.donors_from-from.ensures h c.select.ensures)
-    (outcome_by_enums c.held_from-here.result _ _ _ _ c.⟪is_held_lem⟫.ensures h c.outcome.ensures)
+    (outcome_by_enums c.held_from-here.result _ _ _ _ c.is_held.ensures h c.outcome.ensures)
 
 pub returns-in-Short : goal.returns-in-Short
 returns-in-Short c = chose_short _ (sym c.in-Short.is ∙ answer_by_enums _ _ _ _ _ c.donors_from-from.ensures c.held_from-here.ensures c.select.ensures)
