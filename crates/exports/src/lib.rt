@@ -1,4 +1,6 @@
 // The functions that the harness calls, by the C calling convention.
+#![tactic(auto)]
+
 ghost use Rattle.std.specs.Prelude.{◌≡◌, length};
 ghost use Rattle.draw.specs.Draw.{largest, draw_at};
 ghost use Rattle.round.specs.Choice.{selected};

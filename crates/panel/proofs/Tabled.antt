@@ -9,7 +9,6 @@ use lib.Dec.{eqb}
 use lib.ListN.{length, get_or, set, drop, replicate, length-set}
 use lib.Seq.{get_or-set_same, get_or-set_other, drop-drop}
 use borrow.Author.Tests.{ne_eqb, eqb-true, eqb-false}
-use Rattle.round.specs.Choice.{outcome}
 use Rattle.sheet.specs.Sheet.{most_rounds}
 use Rattle.selection.specs.Choice.{Choice, by_round, pair, written_pairs}
 use Rattle.selection.proofs.Choices.{Sound, Rises}

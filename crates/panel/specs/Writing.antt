@@ -1,5 +1,5 @@
 -- The output, the answer and the next sheet, from the choices as the code gathers them.
-use Rattle.std.specs.Prelude.{ℕ, zero, suc, ◌+◌, ◌^◌, ◌≤◌, ◌<◌, ◌≡◌, cond, List, [], ◌++◌, eqb, length, get_or}
+use Rattle.std.specs.Prelude.{ℕ, zero, suc, ◌^◌, ◌≤◌, ◌<◌, ◌≡◌, cond, List, [], ◌++◌, eqb, length, get_or}
 use Rattle.sheet.specs.Sheet.{most_rounds, Lift, sheet_of}
 use Rattle.reply.specs.Reply.{onto}
 use Rattle.tally.specs.Rounds.{in_use}

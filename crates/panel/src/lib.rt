@@ -1,4 +1,6 @@
 // The whole choice: one lift for each new round of a sheet ("The reply" and "Refused because of what was lent" of document 01).
+#![tactic(auto)]
+
 ghost use Rattle.std.specs.Prelude.{◌≡◌, List, ℕ, ◌≤◌, length};
 ghost use Rattle.reply.specs.Reply.{replied, unless_refused};
 ghost use Rattle.reply.specs.Refusal.{reply_of};

@@ -26,7 +26,7 @@ pub slice_bounds-select_rounds-end : goal.slice_bounds-select_rounds-end
 slice_bounds-select_rounds-end c = sym (length-take-le _ _ (room (goal.at.slice_bounds-select_rounds-end c).After-size-end))
 
 pub select_rounds-requires : goal.select_rounds-requires
-select_rounds-requires c = 
+select_rounds-requires c =
     record { fitting = (c.requires.fitting, c.requires.tabled); rows_len = length-take-le _ _ (room (goal.at.select_rounds-requires c).After-size-end) ∙ ap (λ n. row_length * n) c.size-end.ensures }
 
 pub returns : goal.returns

@@ -1,5 +1,4 @@
 use native.Mathlib.Omega.{arith}
-use Prim.Native.Nat.{◌-◌}
 use mathlib.Core.Path.{ap}
 use Rattle.tally.proofs.Verdicts.{fit}
 use Rattle.picks.specs.Choosing.{update_of}
@@ -11,7 +10,7 @@ pub lay_out-x-requires : goal.lay_out-x-requires
 lay_out-x-requires c = record { fitting = c.requires.fitting.0; tabled = c.requires.fitting.1; rows_len = c.requires.rows_len }
 
 pub loop-r-init : goal.loop-r-init
-loop-r-init c = 
+loop-r-init c =
     let p = c.requires.fitting in
     (record { fit = fit p.0; long = omega (arith, c.rows-1.given, c.requires.rows_len); laid = c.lay_out-x.ensures; old_sums = p.1.old_sums; new_sums = p.1.new_sums }, going_none _ _ _ _)
 

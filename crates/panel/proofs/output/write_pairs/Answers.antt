@@ -1,7 +1,6 @@
 use native.Mathlib.Omega.{arith}
 use Prim.Native.Nat.{◌+◌, ◌-◌, ◌≤◌}
 use mathlib.Core.Path.{◌≡◌, refl}
-use mathlib.Core.Logic.{⊎_elim}
 use lib.ListN.{length, drop, length-drop}
 use lib.Seq.{length-take-le}
 use Rattle.panel.proofs.Pairs.{written_none, written_skip, room, written_turn, written_end}
@@ -42,9 +41,9 @@ pub loop-round-preserved : goal.loop-round-preserved
 loop-round-preserved c =
     let w = c.loop-round.invariant in
     let h = c.loop-round-test.true in
-    elim c.if-outcome-ne0.branch
-    [ then-outcome-ne0 t ↦ rw (t.out-is, t.start-is) (written_turn w h c.requires.few t.if-outcome-ne0.true t.write_pair.ensures refl)
-    | else-outcome-ne0 t ↦ rw (t.out-is, t.start-is) (written_skip w h t.if-outcome-ne0.false)
+    elim c.if-outcome-ne0.branch [
+      | then-outcome-ne0 t ↦ rw (t.out-is, t.start-is) (written_turn w h c.requires.few t.if-outcome-ne0.true t.write_pair.ensures refl)
+      | else-outcome-ne0 t ↦ rw (t.out-is, t.start-is) (written_skip w h t.if-outcome-ne0.false)
     ]
 
 pub returns : goal.returns
