@@ -1,5 +1,7 @@
 // The printed text, from the bytes of both files ("The program" of document 01): words are decoded, and lines are written into
 // a lent text.
+#![tactic(auto)]
+
 ghost use Rattle.std.specs.Prelude.{◌≡◌, [], ◌∷◌, ◌++◌, ◌+◌, ◌*◌, ◌/◌, ◌^◌, ◌≤◌, ◌<◌, min, length, take};
 ghost use Rattle.sheet.specs.Sheet.{longest};
 ghost use Rattle.reply.specs.Reply.{numbered};

@@ -1,5 +1,4 @@
 -- `report::little_endian` meets its contract: the word is the number of the bytes from the position on. Assumes nothing.
-use Prim.Native.Nat.{◌-◌}
 use Rattle.report.proofs.Words.{Suffix}
 use Rattle.report.proofs.little_endian.Given as goal
 

@@ -1,4 +1,4 @@
-use Prim.Native.Nat.{◌+◌, ◌-◌}
+use Prim.Native.Nat.{◌+◌}
 use mathlib.Core.List.{[], ◌∷◌}
 use lib.ListN.{get_or, drop, drop_of_length-le}
 use Rattle.report.proofs.Texts.{writing_none, writing_turn, writing_length, writing_room, writing_end, left_one}

@@ -9,12 +9,12 @@ use Rattle.report.proofs.put_text.Goals as goal
 use Rattle.report.proofs.put_text.Goals.{After-choose-answer}
 
 -- the answer and the output words give the text
-text_of : (c : After-choose-answer) → TextIs (sheet_words c.args.sheet.now) (random_words c.args.words.now) (reply_of c.choose-answer.result) c.choose-answer.new.1.1.1.0
+text_of : (c : After-choose-answer) → TextIs (sheet_words c.args.sheet.now) (random_words c.args.words.now) (reply_of c.choose-answer.result) c.choose-answer.new.out
 text_of c =
     let e = c.choose-answer.ensures in
     let s = c.sheet_words-n.ensures in
     let w = c.random_words-m.ensures in
-    text_is _ _ (reply_of c.choose-answer.result) _ (rw (s.is, w.is) at e.0) (random_le c.args.words.now) refl (search rules) (rw (s.is, w.is) at e.1.0)
+    text_is _ _ (reply_of c.choose-answer.result) _ (rw (s.is, w.is) at e.replied) (random_le c.args.words.now) refl (search rules) (rw (s.is, w.is) at e.written)
 
 pub slice_bounds-choose-end : goal.slice_bounds-choose-end
 slice_bounds-choose-end c = lent _ c.sheet_words-n.ensures.fits
@@ -27,4 +27,4 @@ put_answer-requires c = record { printable = (text_of (goal.at.put_answer-requir
 
 pub returns : goal.returns
 returns c = let e = c.put_answer.ensures in
-    record { is = e.0 ∙ sym (text_of (goal.at.returns c).After-choose-answer).is; fits = e.1 }
+    record { is = e.is ∙ sym (text_of (goal.at.returns c).After-choose-answer).is; fits = e.fits }

@@ -30,4 +30,4 @@ put_text-requires c = record { sheet_len_bound = rw length-take (omega (arith, c
 pub returns : goal.returns
 returns c = let a = c.args in
     let e = c.put_text.ensures in
-    record { is = e.0 ∙ sym (report_text a.sheet.now a.size a.words.now c.fewer-n.ensures c.if-size-ne0.false c.if-size-gt-LONGEST.false); fits = e.1 }
+    record { is = e.is ∙ sym (report_text a.sheet.now a.size a.words.now c.fewer-n.ensures c.if-size-ne0.false c.if-size-gt-LONGEST.false); fits = e.fits }

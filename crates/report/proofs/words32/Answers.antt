@@ -1,4 +1,3 @@
-use Prim.Native.Nat.{◌-◌}
 use Rattle.report.proofs.Words.{stored_none, stored_next, stored_turn, stored_end}
 use native.Mathlib.Omega.{arith}
 use Rattle.report.proofs.words32.Goals as goal
