@@ -1,6 +1,6 @@
 # make run        chooses for the quarter in example/quarter, by the proved program
 # make test       the whole gate: layout, proofs, must-fail edits, programs, and the comparison with Rust
-# make edit       tries one must-fail edit: make edit EDIT=round/definition_straight_odds
+# make edit       tries one must-fail edit: make edit EDIT=round/both_straight_odds
 # make examples   writes the files of the examples again, from their generator
 # make bench      times the proved choice and the taking of counts beside plain versions, a bare pass over the sheet and the reference
 
