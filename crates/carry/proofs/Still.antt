@@ -12,7 +12,7 @@ use Rattle.probability.proofs.Lists.{All}
 use Rattle.round.specs.Round.{S, U, D, measure_from, old_weight, new_weight, weights, weight_at}
 use Rattle.probability.specs.Initial.{here}
 use Rattle.probability.specs.Branch.{join, update_or}
-use Rattle.round.specs.Choice.{selection, branch_of, preliminary_by, stay_or, keyfitz, plan_by, plan}
+use Rattle.round.specs.Choice.{selection, single, preliminary_by, stay_or, keyfitz, plan_by, plan}
 use Rattle.round.specs.declared.Donors.TheVariants.{One}
 use Rattle.round.specs.declared.Lift.{Lift}
 
@@ -28,7 +28,7 @@ still_sums (u ∷ us) h =
     ap₂ ◌+◌ (rw (eq-eqb u.donor 1 s.donor) s.same) (still_sums us (λ l m. h l (Memᴰ.tail m)))
 
 pub still_plan : (T : ℕ) (us : List Lift) → All Still us → (i : ℕ) → plan (One T) us (here i ∷ []) ≡ done (selection i false)
-unfolding plan_by preliminary_by branch_of join update_or bind keyfitz stay_or weights old_weight new_weight D
+unfolding plan_by preliminary_by single join update_or bind keyfitz stay_or weights old_weight new_weight D
 still_plan T us h i = rw (le-leb _ _ (no_loss us h i))
   where
     no_loss : (vs : List Lift) → All Still vs → (i : ℕ)

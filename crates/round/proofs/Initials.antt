@@ -15,7 +15,7 @@ use Rattle.probability.specs.Branch.{TakenBelow, taken_mass, presence, absence, 
 use Rattle.probability.proofs.Sums.{over_ext, middle, Σ-mul, Σ-map, Σ-one}
 use Rattle.probability.proofs.Fractions.{≈-refl, ≈-sym, ≈-trans, ≈-num, ⊕-assoc, ⊕-comm, ⊕-zero, ⊕-≈, ⊕-same, ⊗-≈, ⊗-swap, ⊗-distrib, sum-≈, sum_den, sum_same, sum_add, sum_part}
 use Rattle.round.specs.Round.{lift_at, measure_from, U, IsDonor}
-use Rattle.round.specs.Choice.{branch_of}
+use Rattle.round.specs.Choice.{single}
 use Rattle.round.specs.Share.{mean_over_initial}
 use Rattle.round.specs.Rows.{Inside}
 use Rattle.round.specs.declared.Lift.{Lift}
@@ -65,8 +65,8 @@ module _ (k T : ℕ) (ls : List Lift) (s : IsDonor k T ls) where
             (record { cross = omega (arith, s.part); left = omega arith; right = omega arith });
       }
 
-  pub known_branch : Known (Inside (length ls)) (mean_over_initial k T ls) branch_of (length ls) (U k ls) (T - U k ls) T (U k ls) (λ i. measure_from k (lift_at ls i))
-  unfolding branch_of taken_mass presence absence mass mean Every
+  pub known_branch : Known (Inside (length ls)) (mean_over_initial k T ls) single (length ls) (U k ls) (T - U k ls) T (U k ls) (λ i. measure_from k (lift_at ls i))
+  unfolding single taken_mass presence absence mass mean Every
   known_branch =
       let p = positive in
       record {
@@ -77,14 +77,14 @@ module _ (k T : ℕ) (ls : List Lift) (s : IsDonor k T ls) where
         divisor = s.some;
         place = λ i l. ≈-trans
             (≈-num (ap (λ c. c + (T - U k ls) * 0) (Σ-one (length ls) i (λ a. measure_from k (lift_at ls a)) l))
-            (initial_same (λ x. taken_mass i (branch_of x)) {x = λ a. indicator (eqb a i)} {y = 0} {R = 1} (omega arith) (λ a _. ≈-refl (omega arith)) (≈-refl (omega arith))))
+            (initial_same (λ x. taken_mass i (single x)) {x = λ a. indicator (eqb a i)} {y = 0} {R = 1} (omega arith) (λ a _. ≈-refl (omega arith)) (≈-refl (omega arith))))
             (record { cross = omega arith; left = omega arith; right = mul-pos p s.some });
-        some = ≈-trans (initial_const (λ x. presence (branch_of x) // 1) 1 0 (λ i _. ≈-refl (omega arith)) (≈-refl (omega arith)))
+        some = ≈-trans (initial_const (λ x. presence (single x) // 1) 1 0 (λ i _. ≈-refl (omega arith)) (≈-refl (omega arith)))
             (record { cross = omega arith; left = omega arith; right = p });
-        none = ≈-trans (initial_const (λ x. absence (branch_of x) // 1) 0 1 (λ i _. ≈-refl (omega arith)) (≈-refl (omega arith)))
+        none = ≈-trans (initial_const (λ x. absence (single x) // 1) 0 1 (λ i _. ≈-refl (omega arith)) (≈-refl (omega arith)))
             (record { cross = omega arith; left = omega arith; right = p });
       }
     where
-      placed : (x : Initial) → Inside (length ls) x → TakenBelow (length ls) (branch_of x)
+      placed : (x : Initial) → Inside (length ls) x → TakenBelow (length ls) (single x)
       placed elsewhere f = tt
       placed (here i) f = f

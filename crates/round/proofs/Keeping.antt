@@ -18,7 +18,7 @@ use Rattle.probability.proofs.Sums.{over_ext, Σ-mono, Σ-mul, Σ-map, Σ-term}
 use Rattle.probability.proofs.Fractions.{≈-refl, ≈-sym, ≈-trans, ≲-≈, ≈-num, ⊕-same, ⊗-≈, sum-≈}
 use Rattle.probability.proofs.Masses.{weighed}
 use Rattle.round.specs.Round.{lift_at, S, measure_from, U, D, old_weight, Weight, weights, weight_at, G, WellPosed}
-use Rattle.round.specs.Choice.{Selection, Update, fresh, branch_of, preliminary_by, plan_by, is_held}
+use Rattle.round.specs.Choice.{Selection, Update, fresh, single, preliminary_by, plan_by, is_held}
 use Rattle.round.specs.Share.{mean_over_initial, mean_over_donors, chooses, smaller, SameSum, Exact, Staying}
 use Rattle.round.specs.Keep.{round_kept, Coupling, tickets, kept_tickets, Attained, Best, KeepsTheorem}
 use Rattle.round.specs.declared.Donors.TheVariants.{One}
@@ -112,7 +112,7 @@ module _ (update : Update) (x : Exact update) (y : Staying update) (T : ℕ) (ls
 
   keeps_here : (i : ℕ) → i < length ls
       → weight (λ s. is_held (here i ∷ []) s.place) (paths (plan_by update (One T) ls (here i ∷ []))) ≈ mass (chooses i) (update ws i)
-  unfolding plan_by preliminary_by branch_of join update_or bind
+  unfolding plan_by preliminary_by single join update_or bind
   keeps_here i l =
       rw (fun_ext {f = λ (s : Selection). eqb i s.place || false} {g = chooses i} (λ s. or-false (eqb i s.place) ∙ eqb_comm i s.place))
       (weighed (chooses i) (update ws i) (x.drawable same i (rw (length_weights (One T) ls) l))).agree
@@ -124,7 +124,7 @@ module _ (update : Update) (x : Exact update) (y : Staying update) (T : ℕ) (ls
 
   -- no held lift is elsewhere
   elsewhere_part : (T - U 1 ls) // T ⊗ weight (λ s. is_held (elsewhere ∷ []) s.place) (paths (plan_by update (One T) ls (elsewhere ∷ []))) ≈ 0 // N
-  unfolding plan_by preliminary_by branch_of join update_or
+  unfolding plan_by preliminary_by single join update_or
   elsewhere_part =
       let d = (weighed (λ s. is_held (elsewhere ∷ []) s.place) (fresh ls) (every_fresh ls f.positive)).agree.left in
       let e : T - U 1 ls ≡ 0 = omega arith in let p : 0 < T = rw (← whole) f.donate.0.some in

@@ -17,7 +17,7 @@ use Rattle.probability.proofs.Intervals.{pick_some}
 use Rattle.probability.proofs.Fractions.{pos_left}
 use Rattle.probability.proofs.Masses.{every_map, every_after, every_cond}
 use Rattle.round.specs.Round.{lift_at, S, D, Weight, old_weight, new_weight, weights, weight_at, whole_sums, WellPosed}
-use Rattle.round.specs.Choice.{draw_place, fresh, branch_of, initial_at, first_odds, preliminary_by, preliminary, stay_or, keyfitz, plan_by, plan, outcome}
+use Rattle.round.specs.Choice.{draw_place, fresh, single, initial_at, first_odds, preliminary_by, preliminary, stay_or, keyfitz, plan_by, plan, outcome}
 use Rattle.round.specs.Rows.{lift_of_measures, Bounded, IfHere, Inside, Stands}
 use Rattle.round.specs.Law.{Fits64, Weighty, LawsTheorem}
 use Rattle.round.specs.declared.Donors.{Donors}
@@ -61,8 +61,8 @@ within_keyfitz ws i = within_stay_or 1 (weight_at ws i) _ _ tt (λ q _. tt)
 
 -- the preliminary lift takes at most one draw, and its update n + 1
 within_join : {A : Type 0} (b o n : ℕ) (update : ℕ → Plan A) (fresh : Plan A) → ((i : ℕ) → DrawsAtMost (suc n) (update i)) → DrawsAtMost (suc n) fresh
-    → (x y : Initial) → DrawsAtMost (suc (suc n)) (update_or update fresh (join b o (branch_of x) (branch_of y)))
-unfolding DrawsAtMost update_or join branch_of bind
+    → (x y : Initial) → DrawsAtMost (suc (suc n)) (update_or update fresh (join b o (single x) (single y)))
+unfolding DrawsAtMost update_or join single bind
 within_join b o n update fresh u f elsewhere elsewhere = within_more (suc n) fresh f
 within_join b o n update fresh u f elsewhere (here j) = within_more (suc n) (update j) (u j)
 within_join b o n update fresh u f (here i) elsewhere = within_more (suc n) (update i) (u i)
@@ -80,8 +80,8 @@ three ds ls xs = within_join (D ds ls) (first_odds ds ls) 1 (keyfitz (weights ds
 
 -- what holds of the lifts held here holds of the preliminary lift, and there is a bound to draw below where both are here
 pub every_preliminary : (R : ℕ → Type 0) (b o : ℕ) (x y : Initial) → IfHere R x → IfHere R y → ((i j : ℕ) → x ≡ here i → y ≡ here j → 0 < b)
-    → EveryTaken R (join b o (branch_of x) (branch_of y))
-unfolding Every join branch_of
+    → EveryTaken R (join b o (single x) (single y))
+unfolding Every join single
 every_preliminary R b o elsewhere elsewhere u v p = tt
 every_preliminary R b o elsewhere (here j) u v p = v
 every_preliminary R b o (here i) elsewhere u v p = u
@@ -119,7 +119,7 @@ module _ (ds : Donors) (ls : List Lift) (f : WellPosed ds ls) (xs : List Initial
       (stands_at (whole_sums ds) xs (length ls) s 0).0 (stands_at (whole_sums ds) xs (length ls) s 1).0 (λ i j e _. donor_D 0 i e)
 
 drawable : (ds : Donors) (ls : List Lift) → WellPosed ds ls → (xs : List Initial) → Stands (whole_sums ds) xs (length ls) → Drawable (plan ds ls xs)
-unfolding plan_by preliminary_by branch_of join update_or
+unfolding plan_by preliminary_by single join update_or
 drawable ds ls f xs =
     by_donors (λ ds. WellPosed ds ls → Stands (whole_sums ds) xs (length ls) → Drawable (plan ds ls xs))
     (λ f s. rw ((stands_at [] xs (length ls) s 0).1 (omega arith), (stands_at [] xs (length ls) s 1).1 (omega arith)) (every_fresh ls f.positive))

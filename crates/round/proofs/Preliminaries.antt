@@ -10,7 +10,7 @@ use Rattle.probability.specs.Initial.{Initial}
 use Rattle.probability.specs.Branch.{TakenBelow, Known}
 use Rattle.probability.proofs.Dichotomy.{join_absent, dichotomy, relabel, known_image}
 use Rattle.round.specs.Round.{lift_at, U, D, whole_sums, AreDonors}
-use Rattle.round.specs.Choice.{branch_of, first_odds, preliminary_by, preliminary}
+use Rattle.round.specs.Choice.{single, first_odds, preliminary_by, preliminary}
 use Rattle.round.specs.Share.{mean_over_donors, mean_over_held}
 use Rattle.round.specs.declared.Donors.{Donors}
 use Rattle.round.specs.declared.Donors.TheVariants.{None, One, Two}
@@ -41,14 +41,14 @@ by_donors C n s (Two T₁ T₂) = s (Two T₁ T₂) (omega arith)
 
 -- in every round with a donor
 pub knows : (ds : Donors) (ls : List Lift) → 0 < length (whole_sums ds) → AreDonors 1 (whole_sums ds) ls → Knows ds ls
-unfolding mean_over_donors D cross_measure preliminary_by first_odds branch_of
+unfolding mean_over_donors D cross_measure preliminary_by first_odds single
 knows None ls p s = absurd (omega arith)
 knows (One T) ls p s = record {
   X = U 1 ls;
   Y = T - U 1 ls;
   Z = T;
   some = s.0.some;
-  known = known_image (preliminary (One T) ls) (λ x. x ∷ []) (λ x. join_absent (U 1 ls) 0 (branch_of x)) (known_branch 1 T ls s.0);
+  known = known_image (preliminary (One T) ls) (λ x. x ∷ []) (λ x. join_absent (U 1 ls) 0 (single x)) (known_branch 1 T ls s.0);
 }
 knows (Two T₁ T₂) ls p s =
     let s₁ = s.0 in let s₂ = s.1.0 in let u₁ = U 1 ls in let u₂ = U 2 ls in

@@ -16,7 +16,7 @@ use Rattle.probability.proofs.Fractions.{pos_left, ≈-refl, ≈-trans}
 use Rattle.probability.proofs.Masses.{weighed, mass_den, mass_hits, every_map, every_after}
 use Rattle.probability.proofs.Dichotomy.{prelim, branch_shares}
 use Rattle.round.specs.Round.{lift_at, S, D, old_weight, new_weight, Weight, weights, weight_at, WellPosed}
-use Rattle.round.specs.Choice.{selection, Update, draw_place, fresh, branch_of, preliminary_by, preliminary, plan_by}
+use Rattle.round.specs.Choice.{selection, Update, draw_place, fresh, single, preliminary_by, preliminary, plan_by}
 use Rattle.round.specs.Share.{mean_over_donors, mean_over_held, chooses, taken_weight, SameSum, Exact, round_share, Shares, SharesTheorem}
 use Rattle.round.specs.declared.Donors.{Donors}
 use Rattle.round.specs.declared.Donors.TheVariants.{None}
@@ -117,7 +117,7 @@ module _ (update : Update) (x : Exact update) (ds : Donors) (ls : List Lift) (q 
 -- ---- every round
 
 none_shares : (update : Update) (ls : List Lift) → 0 < S ls → Shares update None ls
-unfolding round_share plan_by preliminary_by branch_of join update_or mean_over_donors D
+unfolding round_share plan_by preliminary_by single join update_or mean_over_donors D
 none_shares update ls q = record {
   shares = λ j l. ≈-trans (weighed (chooses j) (fresh ls) (every_fresh ls q)).agree (mass_fresh ls j l q);
   some = λ p. absurd (omega arith);

@@ -32,9 +32,9 @@ fresh ls = draw_place (S ls) (map (λ l. l.new) ls) false
 -- ---- the preliminary lift, from where the donors' held lifts are
 
 -- a donor's held lift alone: "One held lift here: it is preliminary."
-unfoldable pub branch_of : Initial → Branch
-branch_of elsewhere = absent
-branch_of (here i) = present (done i)
+unfoldable pub single : Initial → Branch
+single elsewhere = absent
+single (here i) = present (done i)
 
 -- where the held lift of the donor behind k others is
 abbrev pub initial_at : List Initial → ℕ → Initial
@@ -48,7 +48,7 @@ first_odds (Two T₁ T₂) ls = U 2 ls * T₁
 
 -- "Two held lifts here: draw v below" a bound. "If v is less than" the odds, "donor 1's lift is preliminary, else donor 2's."
 unfoldable pub preliminary_by : (bound odds : ℕ) → List Initial → Branch
-preliminary_by bound odds xs = join bound odds (branch_of (initial_at xs 0)) (branch_of (initial_at xs 1))
+preliminary_by bound odds xs = join bound odds (single (initial_at xs 0)) (single (initial_at xs 1))
 
 -- "draw v below D. If v is less than U2 × T1"
 abbrev pub preliminary : Donors → List Lift → List Initial → Branch

@@ -10,9 +10,9 @@ use Rattle.sheet.specs.Worked.{lift, example}
 use Rattle.selection.specs.Choice.{fourth, reply, output}
 use Rattle.selection.specs.Fair.{share, kept}
 
--- a sheet, random words, a start and an output, the reply, and the output after the call; the reply is computed once for its three numbers
-unfoldable pub case : List ℕ → List ℕ → ℕ → List ℕ → Reply → List ℕ → Bool
-case sheet ws start out r after = let is = reply fourth sheet ws start (length out) in same_reply is r && same (output fourth sheet ws start out) after
+-- a sheet, random words, a start and an output, the reply, and the output after the call
+abbrev case : List ℕ → List ℕ → ℕ → List ℕ → Reply → List ℕ → Bool
+case sheet ws start out r after = same_reply (reply fourth sheet ws start (length out)) r && same (output fourth sheet ws start out) after
 
 -- one choice from the first word on, with the number of words read, and a word behind the pair that stays
 abbrev choice : List ℕ → List ℕ → ℕ → ℕ → ℕ → Bool
