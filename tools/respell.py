@@ -16,11 +16,15 @@ PLACE = re.compile(r"(?<![\w'◌·#«-])([A-Za-zΣμ][\w'₀-₉-]*)(?![\w'◌·
 DECLARED = re.compile(r"^\s*(?:(?:abbrev|unfoldable|pattern|pub)\s+)*([A-Za-zΣμ][\w'₀-₉-]*)(?:\s+[a-zΣμ][\w'₀-₉-]*)*\s+:\s")
 BOUND = re.compile(r"[({]([\w'₀-₉ -]+) : ")
 ALIAS = re.compile(r" as ([A-Za-z][\w'-]*)(?=[,}])")
-NEEDS = re.compile(r"[a-zA-Z0-9]-[A-Za-z0-9]|[a-z0-9][A-Z]")
+NEEDS = re.compile(r"[a-zA-Z0-9]-[A-Za-z0-9]|[a-z0-9][A-Z]|^get_d_")
+# a name with a dash before a symbol, as of a lemma on an operator
+SYMBOL = re.compile(r"(?<![\w'◌·#«-])([a-z]+[A-Z]\w*)(?=-[^\w\s'])")
 
 
 def snake(name):
-    name = name.replace("getD", "get_or").replace("-", "_")
+    if name.startswith("Σ-"):
+        return "Σ-" + snake(name[2:])
+    name = name.replace("getD", "get_or").replace("get_d", "get_or").replace("-", "_")
     name = re.sub(r"([A-Z]+)([A-Z][a-z])", r"\1_\2", name)
     name = re.sub(r"([a-z0-9])([A-Z])", r"\1_\2", name)
     # a single capital is a letter of the office's document and stays; words are in lower case
@@ -96,6 +100,7 @@ def turned(path, text, table, behind):
             return table.get(word, word)
 
         code, mark, comment = line.partition("-- " if path.endswith(".antt") else "// ")
+        code = SYMBOL.sub(lambda it: snake(it.group(1)), code)
         lines.append(PLACE.sub(turn, code) + mark + re.sub(r"`[^`]*`", lambda it: PLACE.sub(turn, it.group(0)), comment))
     return "\n".join(lines)
 

@@ -17,7 +17,7 @@ use Rattle.tally.specs.Rounds.{lift_count}
 use Rattle.reply.specs.Reply.{onto}
 use Rattle.tally.specs.Tables.{table}
 use Rattle.sheet.specs.declared.Entry.{Entry}
-use Rattle.tally.proofs.Tables.{get_d_tabulate, measure_lt}
+use Rattle.tally.proofs.Tables.{get_or_tabulate, measure_lt}
 use Rattle.sheet.proofs.Trips.{read_theorem}
 use Rattle.sheet.proofs.Walks.{Between, between_none, behind, turn, last}
 use Rattle.carry.specs.Next.{remaining, uncounted, carried, carried_on, in_table, words_on}
@@ -27,7 +27,7 @@ use Rattle.carry.proofs.Rounds.{remaining_counts, remaining_few}
 
 -- those of new round 0 and those that remain are all
 pub remaining_all : (ls : List Lift) {counts : List ℕ} → counts ≡ table (λ r. lift_count New r ls) → get_or counts 0 0 + length (remaining ls) ≡ length ls
-remaining_all ls e = rw (e, get_d_tabulate (most_rounds + 1) (λ r. lift_count New r ls) 0 (omega arith)) (remaining_counts ls)
+remaining_all ls e = rw (e, get_or_tabulate (most_rounds + 1) (λ r. lift_count New r ls) 0 (omega arith)) (remaining_counts ls)
 
 -- the lifts that remain have room in the end word
 pub remaining_fit : {ws : List ℕ} → Legible ws → length (remaining (lifts ws)) ≤ most_lifts

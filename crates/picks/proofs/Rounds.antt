@@ -37,7 +37,7 @@ use Rattle.tally.specs.Law.{Fit}
 use Rattle.sheet.specs.Lift.{Old, New}
 use Rattle.rows.specs.declared.Layout.{Layout}
 use Rattle.tally.proofs.Ranges.{Rising}
-use Rattle.tally.proofs.Tables.{get_d_tabulate}
+use Rattle.tally.proofs.Tables.{get_or_tabulate}
 use Rattle.rows.proofs.Placing.{below_le, below_suc, named_length, row_number, row_held}
 use Rattle.selection.specs.Choice.{with_sums, donors_of, in_round, lifts_of, held_of_round, plan_of, no_lift, lift_in_round}
 use Rattle.selection.proofs.Held.{proper, held_exactly}
@@ -116,10 +116,10 @@ marks_are ls (u ∷ us) h (suc i) = marks_are ls us (λ l m. h l (Memᴰ.tail m)
 
 module _ {ls : List Lift} {rows : List ℕ} {x : Layout} {sums news : List ℕ} (d : Lent ls rows x sums news) {r : ℕ} (low : 1 ≤ r) (high : r ≤ most_rounds) where
   begin : begins x r ≡ lifts_below r ls
-  begin = ap (λ t. get_or t r 0) d.laid.starts ∙ get_d_tabulate (most_rounds + 2) (λ t. lifts_below t ls) r (omega arith)
+  begin = ap (λ t. get_or t r 0) d.laid.starts ∙ get_or_tabulate (most_rounds + 2) (λ t. lifts_below t ls) r (omega arith)
 
   end : begins x (r + 1) ≡ lifts_below (suc r) ls
-  end = ap (λ t. get_or t (r + 1) 0) d.laid.starts ∙ get_d_tabulate (most_rounds + 2) (λ t. lifts_below t ls) (r + 1) (omega arith) ∙ ap (λ t. lifts_below t ls) (add-one r)
+  end = ap (λ t. get_or t (r + 1) 0) d.laid.starts ∙ get_or_tabulate (most_rounds + 2) (λ t. lifts_below t ls) (r + 1) (omega arith) ∙ ap (λ t. lifts_below t ls) (add-one r)
 
   -- it ends behind its lifts, inside the rows
   pub ends : begins x (r + 1) ≡ begins x r + lift_count New r ls
@@ -163,7 +163,7 @@ module _ {ls : List Lift} {rows : List ℕ} {x : Layout} {sums news : List ℕ} 
   lifts_are = rw part_pieces (rows_lifts ls r (firsts_all (donors r ls) (donors_few d.fit low high)) ls)
 
   sum_is : (t : ℕ) → t ≤ most_rounds → get_or sums t 0 ≡ sum_of Old t ls
-  sum_is t h = ap (λ s. get_or s t 0) d.old_sums ∙ get_d_tabulate (most_rounds + 1) _ t (omega arith)
+  sum_is t h = ap (λ s. get_or s t 0) d.old_sums ∙ get_or_tabulate (most_rounds + 1) _ t (omega arith)
 
   -- and so are its sums
   sent_is : (k : ℕ) → k ≤ 2 → get_or x.sent (3 * r + k) 0 ≡ U k (lifts_of r ls)
@@ -176,7 +176,7 @@ module _ {ls : List Lift} {rows : List ℕ} {x : Layout} {sums news : List ℕ} 
   sums_are ds e =
       rw (e, lifts_are)
       (record {
-        new = ap (λ s. get_or s r 0) d.new_sums ∙ get_d_tabulate (most_rounds + 1) (λ t. sum_of New t ls) r (omega arith) ∙ sym (S_round d.fit low high);
+        new = ap (λ s. get_or s r 0) d.new_sums ∙ get_or_tabulate (most_rounds + 1) (λ t. sum_of New t ls) r (omega arith) ∙ sym (S_round d.fit low high);
         first = λ _. sent_is 1 (omega arith);
         second = λ _. sent_is 2 (omega arith);
       })

@@ -125,10 +125,10 @@ pub ⊗-part : {q : Fraction} {x : ℕ} (o N S : ℕ) → 0 < N → q ≈ x // (
 
 -- ---- sums over a list
 
-pub sumOver-++ : {A : Type 0} (xs ys : List A) (f : A → Fraction) → sum_over (xs ++ ys) f ≡ sum_over xs f ⊕ sum_over ys f
+pub sum_over-++ : {A : Type 0} (xs ys : List A) (f : A → Fraction) → sum_over (xs ++ ys) f ≡ sum_over xs f ⊕ sum_over ys f
 unfolding sum_over
-sumOver-++ [] ys f = sym (⊕-zero (sum_over ys f))
-sumOver-++ (x ∷ xs) ys f = rw (sumOver-++ xs ys f) (sym (⊕-assoc (f x) (sum_over xs f) (sum_over ys f)))
+sum_over-++ [] ys f = sym (⊕-zero (sum_over ys f))
+sum_over-++ (x ∷ xs) ys f = rw (sum_over-++ xs ys f) (sym (⊕-assoc (f x) (sum_over xs f) (sum_over ys f)))
 
 pub sum_over_map : {A B : Type 0} (h : A → B) (xs : List A) (f : B → Fraction) → sum_over (map h xs) f ≡ sum_over xs (λ x. f (h x))
 unfolding sum_over

@@ -14,7 +14,7 @@ use Rattle.probability.specs.Fraction.{Fraction, ◌//◌, ◌⊕◌, ◌⊗◌,
 use Rattle.probability.specs.Plan.{Plan, done, draw, bind, Every, Drawable, Path, extend_path, paths, weight, mass, mean, Weighed}
 use Rattle.probability.proofs.Sums.{over_related, over_ext, Σ-const}
 use Rattle.probability.proofs.Intervals.{intervals}
-use Rattle.probability.proofs.Fractions.{≈-refl, ≈-sym, ≈-trans, ≈-≲, ⊕-≈, ⊗-≈, ⊗-distrib, sumOver-++, sum_over_map, sum_over_part, sum-≈, sum_cut, sum_const, sum_part, sum_same, sum-≲, sum_one}
+use Rattle.probability.proofs.Fractions.{≈-refl, ≈-sym, ≈-trans, ≈-≲, ⊕-≈, ⊗-≈, ⊗-distrib, sum_over-++, sum_over_map, sum_over_part, sum-≈, sum_cut, sum_const, sum_part, sum_same, sum-≲, sum_one}
 use Rattle.probability.proofs.Averages.{av_den, av_mix, plan_averages, mean_bind}
 
 -- ---- the list of paths and the recursion
@@ -22,7 +22,7 @@ use Rattle.probability.proofs.Averages.{av_den, av_mix, plan_averages, mean_bind
 weight_over : {A : Type 0} (t : A → Bool) (n : ℕ) (f : ℕ → List (Path A)) → weight t (over ◌++◌ [] n f) ≡ sum n (λ v. weight t (f v))
 unfolding weight sum_over
 weight_over t n f =
-    over_related (λ xs q. weight t xs ≡ q) ◌++◌ [] ◌⊕◌ (0 // 1) refl (λ a x b y p q. sumOver-++ a x _ ∙ ap₂ ◌⊕◌ p q) n (λ i l. refl)
+    over_related (λ xs q. weight t xs ≡ q) ◌++◌ [] ◌⊕◌ (0 // 1) refl (λ a x b y p q. sum_over-++ a x _ ∙ ap₂ ◌⊕◌ p q) n (λ i l. refl)
 
 weight_drew : {A : Type 0} (t : A → Bool) (b v : ℕ) (ps : List (Path A)) → 0 < b → 0 < (weight t ps).den
     → weight t (map (extend_path b v) ps) ≈ 1 // b ⊗ weight t ps

@@ -139,13 +139,13 @@ cond_one (suc n) zero x h = ap (λ t. x + t) (over_ext ◌+◌ 0 n {f = λ j. co
 cond_one (suc n) (suc k) x h = ap₂ ◌+◌ (rw (eqb-suc-zero k)) (over_ext ◌+◌ 0 n {f = λ i. cond (eqb (suc k) (suc i)) x 0} {g = λ i. cond (eqb k i) x 0} (λ i l. rw (eqb-suc-suc k i)) ∙ cond_one n k x (omega arith)) ∙ zero-add x
 
 -- every key below n: the sums by key make up the whole
-pub σ_total_by : {A : Type 0} (key value : A → ℕ) (d : A) (n : ℕ) (xs : List A) → ((i : ℕ) → i < length xs → key (get_or xs i d) < n)
+pub Σ-total_by : {A : Type 0} (key value : A → ℕ) (d : A) (n : ℕ) (xs : List A) → ((i : ℕ) → i < length xs → key (get_or xs i d) < n)
     → Σ n (λ k. total_by key value k xs) ≡ total (map value xs)
 unfolding total total_by
-σ_total_by key value d n [] h = Σ-const n 0 ∙ omega arith
-σ_total_by key value d n (x ∷ xs) h =
+Σ-total_by key value d n [] h = Σ-const n 0 ∙ omega arith
+Σ-total_by key value d n (x ∷ xs) h =
     Σ-add n (λ k. value_by key value k x) (λ k. total_by key value k xs)
-    ∙ ap₂ ◌+◌ (cond_one n (key x) (value x) (h 0 (omega arith))) (σ_total_by key value d n xs (λ i l. h (suc i) (omega arith)))
+    ∙ ap₂ ◌+◌ (cond_one n (key x) (value x) (h 0 (omega arith))) (Σ-total_by key value d n xs (λ i l. h (suc i) (omega arith)))
 
 -- a sum by key as the sum of a list
 pub total_by_map : {A : Type 0} (key value : A → ℕ) (k : ℕ) (xs : List A) → total_by key value k xs ≡ total (map (value_by key value k) xs)

@@ -14,7 +14,7 @@ use Rattle.tally.specs.Rounds.{filter_range, rounds, sends, donors}
 use Rattle.tally.specs.Tables.{bits}
 use Rattle.rows.specs.SetBits.{set_from, set_bits, no_bit, two_at, first_two}
 use Rattle.sheet.specs.Law.{AllWellFormed}
-use Rattle.tally.proofs.Tables.{get_d_tabulate}
+use Rattle.tally.proofs.Tables.{get_or_tabulate}
 use Rattle.tally.proofs.Bits.{low, high}
 use Rattle.tally.proofs.Ranges.{filter_cut, filter_none, filter_head}
 use Rattle.tally.proofs.Sending.{sends_none, from_nowhere, from_beyond}
@@ -129,7 +129,7 @@ two_at_lem words k r i e h =
 
 pub first_two_at : (words : List ℕ) (k r i : ℕ) → k ≡ 2 * r + i → i < 2 → r ≤ most_rounds
     → get_or (first_two words) k 0 ≡ get_or (set_bits (get_or words (2 * r) 0) (get_or words (2 * r + 1) 0)) i no_bit
-first_two_at words k r i e h l = get_d_tabulate (2 * (most_rounds + 1)) (two_at words) k (omega arith) ∙ two_at_lem words k r i e h
+first_two_at words k r i e h l = get_or_tabulate (2 * (most_rounds + 1)) (two_at words) k (omega arith) ∙ two_at_lem words k r i e h
 
 -- one pair more
 pub two_turn : (words : List ℕ) {n : ℕ} {tbl tbl' : List ℕ} {r a b : ℕ} → Filled (2 * n) (two_at words) tbl (2 * r) → r < n

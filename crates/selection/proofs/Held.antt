@@ -11,7 +11,7 @@ use lib.ListN.{length}
 use borrow.Author.Tests.{eqb-true, leb-true, leb-false, ltb-false}
 use Rattle.probability.specs.Sum.{over, total, indicator}
 use Rattle.probability.proofs.Lists.{All, all_none, all_more, all_get_d}
-use Rattle.probability.proofs.Sums.{indicator_le, over_ext, σ_total_by, total_by_none, total_by_le}
+use Rattle.probability.proofs.Sums.{indicator_le, over_ext, Σ-total_by, total_by_none, total_by_le}
 use Rattle.sheet.specs.Sheet.{most_rounds, longest, Lift, words_then, sheet_of, word, held_kind, end_kind}
 use Rattle.tally.specs.Rounds.{lift_count, in_use, held_count}
 use Rattle.tally.specs.Verdict.{not_one_held}
@@ -93,7 +93,7 @@ module _ (ls : List Lift) (d : AllWellFormed 0 ls) where
     held_total : total (map (λ l. indicator l.held) ls) ≡ length (in_use Old ls)
     unfolding over
     held_total =
-        sym (σ_total_by old_round (λ l. indicator l.held) no_lift (suc most_rounds) ls
+        sym (Σ-total_by old_round (λ l. indicator l.held) no_lift (suc most_rounds) ls
         (λ i _. all_get_d (λ l. l.old.round < suc most_rounds) (omega arith) ls (λ l m. let p = proper 0 ls d l m in omega (arith, p.old.round)) i))
         ∙ ap₂ ◌+◌ (held_nowhere 0 (λ l _. omega arith))
         (over_ext ◌+◌ 0 most_rounds {g = λ t. indicator (ltb 0 (lift_count Old (1 + t) ls))}

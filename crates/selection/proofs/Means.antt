@@ -12,7 +12,7 @@ use borrow.Author.Tests.{eqb-true, ltb-false}
 use Rattle.probability.specs.Sum.{over, value_by}
 use Rattle.probability.specs.Fraction.{Fraction, ◌//◌, ◌⊕◌, ◌⊗◌, ◌≈◌, sum, sum_over}
 use Rattle.probability.proofs.Sums.{Σ-map, total_by_map}
-use Rattle.probability.proofs.Fractions.{pos_right, ≈-refl, ≈-trans, ≈-num, ⊕-≈, ⊗-assoc, ⊗-≈, sumOver-++, sum_over_map, sum_over_part, sum-≈, sum_same, sum_right}
+use Rattle.probability.proofs.Fractions.{pos_right, ≈-refl, ≈-trans, ≈-num, ⊕-≈, ⊗-assoc, ⊗-≈, sum_over-++, sum_over_map, sum_over_part, sum-≈, sum_same, sum_right}
 use Rattle.sheet.specs.Sheet.{Lift}
 use Rattle.tally.specs.Rounds.{filter_range, sum_of}
 use Rattle.sheet.specs.Lift.{Old}
@@ -73,7 +73,7 @@ module _ (t T : ℕ) (p : 0 < T) (ms : List (List Lift)) (f : List Lift → Frac
     where
       go : (x y : Bool) → ltb 0 l.old.measure ≡ y → sum_over (each (eligible t ls) ms) f ≈ mean t T ls h
           → sum_over (each (cond (x && y) (l ∷ eligible t ls) (eligible t ls)) ms) f ≈ cond x l.old.measure 0 // T ⊗ h l ⊕ mean t T ls h
-      go true true m r = rw (sumOver-++ (map (λ m. l ∷ m) ms) (each (eligible t ls) ms) f, sum_over_map (λ m. l ∷ m) ms f) (⊕-≈ (e l) r)
+      go true true m r = rw (sum_over-++ (map (λ m. l ∷ m) ms) (each (eligible t ls) ms) f, sum_over_map (λ m. l ∷ m) ms f) (⊕-≈ (e l) r)
       go true false m r = add_none l.old.measure T (h l) (omega (arith, ltb-false)) p (pos_right T _ (e l).right) r
       go false y m r = add_none 0 T (h l) refl p (pos_right T _ (e l).right) r
 

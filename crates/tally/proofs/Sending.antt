@@ -21,7 +21,7 @@ use Rattle.sheet.specs.Law.{PlaceWellFormed, AllWellFormed}
 use Rattle.sheet.specs.Lift.{New}
 use Rattle.tally.proofs.Bits.{bits_or, bits_ext, bits_none, bits_ones, or_assoc}
 use Rattle.tally.proofs.Ranges.{filter_count, filter_none}
-use Rattle.tally.proofs.Tables.{get_d_tabulate, Folds}
+use Rattle.tally.proofs.Tables.{get_or_tabulate, Folds}
 use Rattle.sheet.proofs.Trips.{read_theorem}
 
 -- ---- gathered
@@ -76,13 +76,13 @@ module _ (ls : List Lift) (r : ℕ) (h : r ≤ most_rounds) where
   low_word =
       let a : 2 * r % 2 ≡ 0 = omega arith in
       let b : 2 * r / 2 ≡ r = omega arith in
-      get_d_tabulate (2 * (most_rounds + 1)) _ (2 * r) (omega arith) ∙ rw (a, b)
+      get_or_tabulate (2 * (most_rounds + 1)) _ (2 * r) (omega arith) ∙ rw (a, b)
 
   pub high_word : get_or (donor_bits ls) (2 * r + 1) 0 ≡ bits 64 (λ t. sends (64 + t) r ls)
   high_word =
       let a : (2 * r + 1) % 2 ≡ 1 = omega arith in
       let b : (2 * r + 1) / 2 ≡ r = omega arith in
-      get_d_tabulate (2 * (most_rounds + 1)) _ (2 * r + 1) (omega arith) ∙ rw (a, b)
+      get_or_tabulate (2 * (most_rounds + 1)) _ (2 * r + 1) (omega arith) ∙ rw (a, b)
 
 -- ---- counted
 

@@ -19,11 +19,11 @@ use Rattle.sheet.proofs.Walks.{Between, between_none, behind, turn, last}
 
 -- ---- tables
 
-pub get_d_tabulate : (n : ℕ) (f : ℕ → ℕ) (k : ℕ) → k < n → get_or (tabulate n f) k 0 ≡ f k
+pub get_or_tabulate : (n : ℕ) (f : ℕ → ℕ) (k : ℕ) → k < n → get_or (tabulate n f) k 0 ≡ f k
 unfolding tabulate
-get_d_tabulate zero f k h = absurd (omega arith)
-get_d_tabulate (suc n) f zero h = refl
-get_d_tabulate (suc n) f (suc k) h = get_d_tabulate n (λ i. f (suc i)) k (omega arith)
+get_or_tabulate zero f k h = absurd (omega arith)
+get_or_tabulate (suc n) f zero h = refl
+get_or_tabulate (suc n) f (suc k) h = get_or_tabulate n (λ i. f (suc i)) k (omega arith)
 
 pub length_tabulate : (n : ℕ) (f : ℕ → ℕ) → length (tabulate n f) ≡ n
 unfolding tabulate
@@ -32,7 +32,7 @@ length_tabulate (suc n) f = ap suc (length_tabulate n (λ i. f (suc i)))
 
 -- a list is a table by its elements
 pub tabulated : {n : ℕ} {l : List ℕ} (f : ℕ → ℕ) → length l ≡ n → ((k : ℕ) → k < n → get_or l k 0 ≡ f k) → l ≡ tabulate n f
-tabulated {n} {l} f e h = ext_get_or 0 l (tabulate n f) (e ∙ sym (length_tabulate n f)) (λ i p. h i (rw e at p) ∙ sym (get_d_tabulate n f i (rw e at p)))
+tabulated {n} {l} f e h = ext_get_or 0 l (tabulate n f) (e ∙ sym (length_tabulate n f)) (λ i p. h i (rw e at p) ∙ sym (get_or_tabulate n f i (rw e at p)))
 
 get_or_zeros : (n r : ℕ) → get_or {A = ℕ} (replicate n 0) r 0 ≡ 0
 get_or_zeros zero r = refl

@@ -26,7 +26,7 @@ use Rattle.tally.specs.declared.Checked.TheVariants.{Refused, Fits}
 use Rattle.tally.specs.declared.Examined.{Examined}
 use Rattle.tally.specs.declared.Found.{Found}
 use Rattle.tally.specs.declared.Found.TheVariants.{At, Nothing}
-use Rattle.tally.proofs.Tables.{get_d_tabulate, length_tabulate, tabulated}
+use Rattle.tally.proofs.Tables.{get_or_tabulate, length_tabulate, tabulated}
 use Rattle.tally.proofs.Sending.{low_word, high_word, donors_count}
 use Rattle.tally.proofs.Numbers.{Above, above}
 use Rattle.sheet.proofs.Trips.{read_theorem, written_theorem}
@@ -40,7 +40,7 @@ tested : (test : ℕ → ℕ → Bool) (f g : ℕ → ℕ) {a b : List ℕ} → 
     → rounds (λ t. test (get_or a t 0) (get_or b t 0)) ≡ rounds (λ t. test (f t) (g t))
 tested test f g ea eb =
     filter_ext 1 most_rounds
-    (λ t l h. ap₂ test (ap (λ x. get_or x t 0) ea ∙ get_d_tabulate (most_rounds + 1) f t h) (ap (λ x. get_or x t 0) eb ∙ get_d_tabulate (most_rounds + 1) g t h))
+    (λ t l h. ap₂ test (ap (λ x. get_or x t 0) ea ∙ get_or_tabulate (most_rounds + 1) f t h) (ap (λ x. get_or x t 0) eb ∙ get_or_tabulate (most_rounds + 1) g t h))
 
 -- what the code's search finds is the first round that breaks a rule
 pub found : (rule : Rule) (f g : ℕ → ℕ) {a b : List ℕ} {x : Found} → a ≡ table f → b ≡ table g → x ≡ found_first (rounds (λ t. breaks rule (get_or a t 0) (get_or b t 0)))
@@ -53,7 +53,7 @@ in_use_lem ls ea e = e ∙ ap length (tested (λ x y. ltb 0 x) _ _ ea ea)
 -- how many donors each round has
 pub counted : {ws words counts : List ℕ} → Legible ws → words ≡ donor_bits (lifts ws) → counts ≡ donor_counts words → counts ≡ table (λ r. length (donors r (lifts ws)))
 counted {ws} {words} l ew ec =
-    tabulated _ (ap length ec ∙ length_tabulate (most_rounds + 1) _) (λ r h. ap (λ t. get_or t r 0) ec ∙ get_d_tabulate (most_rounds + 1) _ r h ∙ count r (omega arith))
+    tabulated _ (ap length ec ∙ length_tabulate (most_rounds + 1) _) (λ r h. ap (λ t. get_or t r 0) ec ∙ get_or_tabulate (most_rounds + 1) _ r h ∙ count r (omega arith))
   where
     count : (r : ℕ) → r ≤ most_rounds → ones (get_or words (2 * r) 0) + ones (get_or words (2 * r + 1) 0) ≡ length (donors r (lifts ws))
     count r h = rw (ew, low_word (lifts ws) r h, high_word (lifts ws) r h) (donors_count ws l r)

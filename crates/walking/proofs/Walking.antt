@@ -1,4 +1,4 @@
--- Steps of a walk by hand, beside those of `types.Run`: what the walks of all crates share.
+-- Steps of a walk by hand, beside those of `types.Run`.
 --     val, sets        a whole local is read, as an operand;  and assigned
 --     calls_said       a call of a function whose one `ensures` says a fact φ of the result alone: its contract at y is given, what it asks stands at the head, and once it has returned u there stand what the result owns, the tokens and the rest, with φ in hand
 --     opens_elem, shuts_elem   element i of a `&[S]`, S a struct of plain data: it is taken out, with its relation in hand, and put back

@@ -1,3 +1,3 @@
 #![tactic(auto)]
 
-// No code: proofs/ has the steps that walks by hand share, for functions on structs that hold references and on slices of structs.
+// No code: proofs/ has steps for proofs that walk a function by hand, of structs that hold references and of slices of structs. No function needs them today.
