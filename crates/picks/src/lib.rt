@@ -45,7 +45,7 @@ enum Step {
 }
 
 // What the choice of a round goes by, besides its rows: its donors, where their held lifts are, and its sums.
-#[derive(Drop)]
+#[derive(Clone, Copy)]
 struct Given {
     donors: Donors,
     held: Held,

@@ -65,9 +65,9 @@ module _ (k T : ℕ) (ls : List Lift) (s : IsDonor k T ls) where
             (record { cross = omega (arith, s.part); left = omega arith; right = omega arith });
       }
 
-  pub known_branch : Known (Inside (length ls)) (mean_over_initial k T ls) single (length ls) (U k ls) (T - U k ls) T (U k ls) (λ i. measure_from k (lift_at ls i))
+  pub known_single : Known (Inside (length ls)) (mean_over_initial k T ls) single (length ls) (U k ls) (T - U k ls) T (U k ls) (λ i. measure_from k (lift_at ls i))
   unfolding single taken_mass presence absence mass mean Every
-  known_branch =
+  known_single =
       let p = positive in
       record {
         averages = initial_averages;

@@ -16,7 +16,7 @@ use Rattle.round.specs.declared.Donors.{Donors}
 use Rattle.round.specs.declared.Donors.TheVariants.{None, One, Two}
 use Rattle.round.specs.declared.Lift.{Lift}
 use Rattle.round.proofs.WeightSums.{cross_measure}
-use Rattle.round.proofs.Initials.{known_branch}
+use Rattle.round.proofs.Initials.{known_single}
 
 -- one donor against another: the inverse odds
 balance : (U₁ E₁ U₂ E₂ T₁ T₂ D : ℕ) → T₁ ≡ U₁ + E₁ → T₂ ≡ U₂ + E₂ → D ≡ T₂ * U₁ + T₁ * U₂
@@ -48,7 +48,7 @@ knows (One T) ls p s = record {
   Y = T - U 1 ls;
   Z = T;
   some = s.0.some;
-  known = known_image (preliminary (One T) ls) (λ x. x ∷ []) (λ x. join_absent (U 1 ls) 0 (single x)) (known_branch 1 T ls s.0);
+  known = known_image (preliminary (One T) ls) (λ x. x ∷ []) (λ x. join_absent (U 1 ls) 0 (single x)) (known_single 1 T ls s.0);
 }
 knows (Two T₁ T₂) ls p s =
     let s₁ = s.0 in let s₂ = s.1.0 in let u₁ = U 1 ls in let u₂ = U 2 ls in
@@ -62,6 +62,6 @@ knows (Two T₁ T₂) ls p s =
       some = omega (arith, mul-pos s₁.some p₂);
       known = relabel refl (λ i. omega arith)
           (known_image (preliminary (Two T₁ T₂) ls) (λ (z : Initial × Initial). z.0 ∷ z.1 ∷ []) (λ z. refl)
-          (dichotomy (known_branch 1 T₁ ls s₁) (known_branch 2 T₂ ls s₂) d (u₂ * T₁) T₂ T₁ (u₁ * T₂ + (T₁ - u₁) * u₂) d q (omega arith) q refl (omega arith)
+          (dichotomy (known_single 1 T₁ ls s₁) (known_single 2 T₂ ls s₂) d (u₂ * T₁) T₂ T₁ (u₁ * T₂ + (T₁ - u₁) * u₂) d q (omega arith) q refl (omega arith)
           (balance u₁ (T₁ - u₁) u₂ (T₂ - u₂) T₁ T₂ d (omega (arith, s₁.part)) (omega (arith, s₂.part)) (omega arith))));
     }
