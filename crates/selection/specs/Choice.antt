@@ -11,7 +11,8 @@ use Rattle.round.specs.declared.Donors.{Donors}
 use Rattle.round.specs.declared.Donors.TheVariants.{None, One, Two}
 use Rattle.round.specs.declared.Lift.{Lift as RoundLift}
 use Rattle.sheet.specs.Sheet.{Lift, lifts, word}
-use Rattle.reply.specs.Reply.{numbered, Reply, replied, of_refusal, unless_refused}
+use Rattle.reply.specs.Reply.{numbered, replied, of_refusal, unless_refused}
+use Rattle.reply.specs.declared.Reply.{Reply}
 use Rattle.sheet.specs.Lift.{place_at, Old, New}
 use Rattle.tally.specs.Rounds.{in_use, sum_of, donors, donor_number, of_round, held_at}
 use Rattle.tally.specs.Verdict.{crowded, verdict_by, of_verdict}

@@ -1,7 +1,8 @@
 -- "Refused because of the sheet" of document 01.
 use Rattle.std.specs.Prelude.{ℕ, Bool, not, ◌&&◌, List, [], ◌∷◌, map, length, eqb, leb, ltb}
 use Rattle.sheet.specs.Sheet.{largest_sum, Lift, lifts}
-use Rattle.reply.specs.Reply.{Numbered, numbered, Reply, of_refusal}
+use Rattle.reply.specs.Reply.{Numbered, numbered, of_refusal}
+use Rattle.reply.specs.declared.Reply.{Reply}
 use Rattle.reply.specs.Refusal.{refusal_of}
 use Rattle.reply.specs.declared.Refusal.{Refusal}
 use Rattle.reply.specs.declared.Refusal.TheVariants.{TooManyDonors}
