@@ -1,6 +1,6 @@
 -- The whole choice, by any way of choosing in a round; the fourth procedure is "One round" of document 01 for each new round, "in rising
 -- order, each reading on where the one before stopped".
-use Rattle.std.specs.Prelude.{ℕ, ◌+◌, ◌*◌, ◌-◌, ◌^◌, cond, false, List, [], ◌∷◌, ◌++◌, map, ltb, length, get_or, set, drop}
+use Rattle.std.specs.Prelude.{ℕ, ◌+◌, ◌*◌, ◌-◌, ◌^◌, cond, false, List, [], ◌∷◌, ◌++◌, map, Option, Some, ltb, length, get_or, set, drop}
 use Rattle.probability.specs.Plan.{Plan}
 use Rattle.draw.specs.Draw.{largest}
 use Rattle.draw.specs.Run.{Run, finished, short as ended, run}
@@ -17,6 +17,7 @@ use Rattle.sheet.specs.Lift.{place_at, Old, New}
 use Rattle.tally.specs.Rounds.{in_use, sum_of, donors, donor_number, of_round, held_at}
 use Rattle.tally.specs.Verdict.{crowded, verdict_by, of_verdict}
 use Rattle.reply.specs.declared.Refusal.{Refusal}
+use Rattle.selection.specs.declared.Pick.{Pick}
 
 -- ---- one round of a sheet
 
@@ -107,10 +108,14 @@ panel_from way ls ws from (r ∷ rs) = and_then r ls (run largest ws from (way.p
 abbrev pub panel : Way → List Lift → List ℕ → ℕ → Panel
 panel way ls ws start = panel_from way ls ws start (in_use New ls)
 
--- a table with a value of each choice at the place of its round
-unfoldable pub by_round : (Choice → ℕ) → List Choice → List ℕ → List ℕ
-by_round f [] xs = xs
-by_round f (c ∷ cs) xs = by_round f cs (set xs c.round (f c))
+-- the lift chosen, as the code keeps it
+abbrev pub pick_of : Choice → Pick
+pick_of c = record { number = c.number; outcome = c.outcome }
+
+-- a table by round with each choice's lift at the place of its round
+unfoldable pub by_round : List Choice → List (Option Pick) → List (Option Pick)
+by_round [] table = table
+by_round (c ∷ cs) table = by_round cs (set table c.round (Some (pick_of c)))
 
 -- ---- the reply and the output
 
