@@ -44,3 +44,19 @@ impl Lift {
     // How many numbers the row of a lift has: one that is the caller's, its donor, its old measure and its new one.
     pub const ROW: usize = 4;
 }
+
+impl From<[u32; Lift::ROW]> for Lift {
+    ghost use Rattle.std.specs.Prelude.{◌≡◌};
+    ghost use Rattle.round.specs.Rows.{row_lift};
+
+    ghost from_gives = { λ row l. l ≡ row_lift row };
+
+    fn from(row: [u32; Lift::ROW]) -> Lift {
+        let [_, donor, old, new] = row;
+        Lift {
+            old: u64::from(old),
+            donor,
+            new: u64::from(new),
+        }
+    }
+}
