@@ -20,7 +20,7 @@ use Rattle.sheet.proofs.Trips.{kind_word, payload_word, kind_place, placed_writa
 abbrev end : ℕ → List ℕ
 end n = word end_kind n ∷ []
 
-pub all_left : {ws : List ℕ} → Legible ws → LiftsLeft ws
+abbrev pub all_left : {ws : List ℕ} → Legible ws → LiftsLeft ws
 all_left {ws} l =
     let r = read_theorem ws l.read in
     record { before = 0; listed = r.well_formed.listed; count = length (lifts ws); few = omega (arith, r.well_formed.few); back = r.back }
@@ -33,14 +33,15 @@ few_lifts {ws} l = (read_theorem ws l.read).well_formed.few
 abbrev pub size : List ℕ → ℕ
 size ws = 3 + indicator (lift_of ws).held
 
--- what holds of words left that begin with a lift
-pub record First (ws : List ℕ) : Type 0 where
+-- what holds of words left that begin with a lift, before an end word of n lifts
+pub record First (n : ℕ) (ws : List ℕ) : Type 0 where
   pub room : 3 < length ws
   pub marked : MarkSound ws
   pub old : PlaceWellFormed old_kind (lift_of ws).old
   pub new : PlaceWellFormed new_kind (lift_of ws).new
   pub here : lifts ws ≡ lift_of ws ∷ lifts (drop (size ws) ws)
   pub next : LiftsLeft (drop (size ws) ws)
+  pub counted : next.count ≡ n
 
 -- a word of kind 1 is read as a lift, another is passed over
 lifts_lift : (w : ℕ) → kind w ≡ lift_kind → (ws : List ℕ) → lifts (w ∷ ws) ≡ lift_of (w ∷ ws) ∷ lifts ws
@@ -104,7 +105,7 @@ module _ {ws : List ℕ} (b : LiftsLeft ws) where
   unfolding words_then
   left_some l ls e = omega (arith, ap length (left (l ∷ ls) e), long l.held (words_then ls (end b.count)), written_long ls b.count)
 
-  first_of : (l : Lift) (ls : List Lift) → lifts ws ≡ l ∷ ls → First ws
+  first_of : (l : Lift) (ls : List Lift) → lifts ws ≡ l ∷ ls → First b.count ws
   unfolding words_then AllWellFormed
   first_of l ls e =
       let p : LiftWellFormed b.before l = (rw e at b.listed).0 in
@@ -121,13 +122,14 @@ module _ {ws : List ℕ} (b : LiftsLeft ws) where
         new = subst (PlaceWellFormed new_kind) (sym (ap (λ x. x.new) s)) p.new;
         here = rw d o;
         next = record { before = l.number; listed = rw (d, t) (rw e at b.listed).1; count = b.count; few = b.few; back = rw (d, t) refl };
+        counted = refl;
       }
 
   -- where more than the end word is left there is a lift
-  pub first : (length ws ≡ 1 → ⊥) → First ws
+  pub first : (length ws ≡ 1 → ⊥) → First b.count ws
   first h = go (lifts ws) refl
     where
-      go : (ls : List Lift) → lifts ws ≡ ls → First ws
+      go : (ls : List Lift) → lifts ws ≡ ls → First b.count ws
       go [] e = absurd (h (left_none e))
       go (l ∷ ls) e = first_of l ls e
 
@@ -152,9 +154,10 @@ module _ {ws : List ℕ} (b : LiftsLeft ws) where
 -- position i stands between lifts
 pub record Between (ws : List ℕ) (i : ℕ) : Type 0 where
   pub rest : LiftsLeft (drop i ws)
+  pub counted : rest.count ≡ length (lifts ws)
 
 pub between_none : {ws : List ℕ} → Legible ws → Between ws 0
-between_none l = record { rest = all_left l }
+between_none l = record { rest = all_left l; counted = refl }
 
 -- where the lift at position i ends
 abbrev pub behind : List ℕ → ℕ → ℕ
@@ -182,11 +185,16 @@ pub moved : {ws : List ℕ} {i m : ℕ} → Turn ws i → m ≡ indicator (lift_
 moved {ws} {i} t e = omega (arith, t.room, indicator_le (lift_of (drop i ws)).held)
 
 module _ {ws : List ℕ} {i : ℕ} (b : Between ws i) where
+  -- what is left of the words is the words of the lifts left
+  pub words_left : words_then (lifts (drop i ws)) (end (length (lifts ws))) ≡ drop i ws
+  words_left = rw b.counted at b.rest.back
+
   pub turn : i + 1 < length ws → Turn ws i
   turn h =
       let f = first b.rest (λ e. omega (arith, length-drop i ws)) in
       let d : drop (size (drop i ws)) (drop i ws) ≡ drop (behind ws i) ws = drop-drop (size (drop i ws)) i ws in
-      record { room = omega (arith, f.room, length-drop i ws); marked = f.marked; old = f.old; new = f.new; here = rw d at f.here; next = record { rest = rw d at f.next } }
+      let n = subst (λ us. (r : LiftsLeft us) × (r.count ≡ length (lifts ws))) d (f.next, f.counted ∙ b.counted) in
+      record { room = omega (arith, f.room, length-drop i ws); marked = f.marked; old = f.old; new = f.new; here = rw d at f.here; next = record { rest = n.0; counted = n.1 } }
 
   pub last : length ws ≤ i + 1 → lifts (drop i ws) ≡ []
   last h = none_left b.rest (omega (arith, length-drop i ws))

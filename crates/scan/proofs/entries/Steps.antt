@@ -23,7 +23,7 @@ byte false = refl
 abbrev cut : List ℕ → ℕ → List ℕ
 cut ws m = take (length ws - (3 + m)) (drop (3 + m) ws)
 
-module _ {ws : List ℕ} {e : Entry} {m : ℕ} (f : First ws) (q : e ≡ entry_of (lift_of ws)) (b : m ≡ bool_byte e.held) where
+module _ {ws : List ℕ} {e : Entry} {m k : ℕ} (f : First k ws) (q : e ≡ entry_of (lift_of ws)) (b : m ≡ bool_byte e.held) where
   stride : 3 + m ≡ size ws
   stride = ap (λ n. 3 + n) (b ∙ byte e.held ∙ ap (λ x. indicator x.held) q)
 
