@@ -9,7 +9,8 @@ use lib.ListN.{length, take}
 use lib.Seq.{take-take}
 use borrow.Author.Tests.{eq-eqb, ne_eqb, lt-ltb, le-ltb, eqb-true, eqb-false, ltb-false}
 use Rattle.sheet.specs.Sheet.{most_rounds, longest, lifts}
-use Rattle.reply.specs.Reply.{numbered, Reply, numbers, replied}
+use Rattle.reply.specs.Reply.{numbered, numbers, replied}
+use Rattle.reply.specs.declared.Reply.{Reply}
 use Rattle.tally.specs.Rounds.{in_use}
 use Rattle.sheet.specs.Lift.{New}
 use Rattle.selection.specs.Choice.{fourth, written_pairs, reply, output}
