@@ -16,7 +16,7 @@ pub scaling-s-requires : goal.scaling-s-requires
 scaling-s-requires c = multipliable c.args.donors c.args.sums c.requires.has_sums c.requires.callable.fitting c.requires.callable.bounded
 
 pub find_preliminary-requires : goal.find_preliminary-requires
-find_preliminary-requires c = record { contested = contested _ (scale (goal.at.find_preliminary-requires c).After-scaling-s) c.requires.callable }
+find_preliminary-requires c = contested _ (scale (goal.at.find_preliminary-requires c).After-scaling-s) c.requires.callable
 
 pub draw_lift-requires : goal.draw_lift-requires
 draw_lift-requires c = search (whole_room, whole_positive)
