@@ -54,26 +54,24 @@ fn read_words(sheet: &[u32]) -> Result<(), Refusal>
         old: 0,
         lifts: 0,
     };
-    let mut i = 0;
-    while i < sheet.len() {
-        let word = sheet[i];
-        if i + 2 < sheet.len() {
-            let old = sheet[i + 1];
-            let new = sheet[i + 2];
-            if is_sound_lift(s, word, old, new) {
-                s = next(next(next(s, word), old), new);
-                i += 3;
-                continue;
+    let mut rest = sheet;
+    while let [word, others @ ..] = rest {
+        rest = match others {
+            [old, new, behind @ ..] if is_sound_lift(s, *word, *old, *new) => {
+                s = next(next(next(s, *word), *old), *new);
+                behind
             }
-        }
-        judge(s, word, i)?;
-        s = next(s, word);
-        i += 1;
+            _ => {
+                judge(s, *word, sheet.len() - rest.len())?;
+                s = next(s, *word);
+                others
+            }
+        };
     }
     if s.kind == Sheet::END {
         return Ok(());
     }
-    Err(Refusal::Sequence(i))
+    Err(Refusal::Sequence(sheet.len()))
 }
 
 // The answer to words alone: one of the refusals 1 to 6 and 16, or sound.
