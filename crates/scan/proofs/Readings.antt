@@ -9,9 +9,8 @@ use lib.ListN.{length, get_or, take, drop}
 use Rattle.std.proofs.lemmas.List.{take_rest}
 use borrow.Author.Tests.{le-ltb, lt-leb, eq-eqb, ne_eqb, eqb-true}
 use Rattle.sheet.specs.Sheet.{most_rounds, largest_sum, not_counted, kind, payload, place_of, lift_kind, old_kind, new_kind, end_kind}
-use Rattle.sheet.specs.Reading.{next_state, may_follow, misnumbered, is_place, misplaced, uncounted_newcomer, miscounted, mismarked, fault, Reading, faulty, sound, unless_fault, read_from, reading}
+use Rattle.sheet.specs.Reading.{ScanState, next_state, may_follow, misnumbered, is_place, misplaced, uncounted_newcomer, miscounted, mismarked, fault, Reading, faulty, sound, unless_fault, read_from, reading}
 use Rattle.reply.specs.Reply.{Numbered, numbered}
-use Rattle.sheet.specs.declared.ScanState.{ScanState}
 
 -- a word's reading, then what follows if it is sound
 abbrev and_then : Reading → Reading → Reading
