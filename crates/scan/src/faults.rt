@@ -11,23 +11,21 @@ use sheet::Sheet;
 pub fn follows(before: u32, kind: u32) -> bool
     ensures { result ≡ follows_of before kind }
 {
-    if before == Sheet::LIFT {
-        return kind == Sheet::OLD;
+    match before {
+        Sheet::LIFT => kind == Sheet::OLD,
+        Sheet::OLD => kind == Sheet::NEW,
+        Sheet::END => false,
+        _ => {
+            kind == Sheet::LIFT || kind == Sheet::END || before == Sheet::NEW && kind == Sheet::HELD
+        }
     }
-    if before == Sheet::OLD {
-        return kind == Sheet::NEW;
-    }
-    if before == Sheet::END {
-        return false;
-    }
-    kind == Sheet::LIFT || kind == Sheet::END || before == Sheet::NEW && kind == Sheet::HELD
 }
 
 // Whether a word of a kind holds a place.
 fn is_place(kind: u32) -> bool
     ensures { result ≡ is_place kind }
 {
-    kind == Sheet::OLD || kind == Sheet::NEW
+    matches!(kind, Sheet::OLD | Sheet::NEW)
 }
 
 // Whether a measure is too large in a word of a kind.
@@ -41,13 +39,7 @@ fn too_large(kind: u32, measure: u64) -> bool
 fn beyond(kind: u32, round: usize, measure: u64) -> bool
     ensures { result ≡ beyond_of kind round measure }
 {
-    if round > Sheet::MOST_ROUNDS {
-        return true;
-    }
-    if too_large(kind, measure) {
-        return true;
-    }
-    round == 0 && measure != 0
+    round > Sheet::MOST_ROUNDS || too_large(kind, measure) || round == 0 && measure != 0
 }
 
 // Whether refusal 4 applies to a word.
