@@ -1,7 +1,8 @@
 -- The reply of the call that also writes next quarter's sheet, and what it leaves in both outputs.
 use Rattle.std.specs.Prelude.{ℕ, cond, List, ltb, length}
 use Rattle.sheet.specs.Sheet.{Lift, lifts}
-use Rattle.reply.specs.Reply.{numbered, Reply, of_refusal, onto, unless_refused}
+use Rattle.reply.specs.Reply.{numbered, of_refusal, onto, unless_refused}
+use Rattle.reply.specs.declared.Reply.{Reply}
 use Rattle.tally.specs.Verdict.{verdict, of_verdict}
 use Rattle.selection.specs.Choice.{fourth, Panel, chosen, short, panel, of_panel, unless_lacking, written_panel}
 use Rattle.carry.specs.Next.{next_sheet, words_needed}

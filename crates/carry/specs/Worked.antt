@@ -2,7 +2,8 @@
 use Rattle.std.specs.Prelude.{ℕ, Bool, true, false, ◌&&◌, List, [], ◌∷◌, length}
 use Rattle.probability.specs.Table.{same}
 use Rattle.sheet.specs.Sheet.{sheet_of}
-use Rattle.reply.specs.Reply.{Reply, numbers, same_reply}
+use Rattle.reply.specs.Reply.{numbers, same_reply}
+use Rattle.reply.specs.declared.Reply.{Reply}
 use Rattle.sheet.specs.Worked.{lift}
 use Rattle.carry.specs.Reply.{reply_next, output_next, lent_sheet}
 

@@ -3,7 +3,8 @@ use Rattle.std.specs.Prelude.{ℕ, ◌+◌, ◌/◌, cond, not, ◌&&◌, List, 
 use Rattle.std.proofs.Math.Option.{Option, none, some}
 use Rattle.probability.specs.Among.{among}
 use Rattle.sheet.specs.Sheet.{Lift, lifts, sheet_of}
-use Rattle.reply.specs.Reply.{numbered, Reply, replied, unless_refused}
+use Rattle.reply.specs.Reply.{numbered, replied, unless_refused}
+use Rattle.reply.specs.declared.Reply.{Reply}
 use Rattle.sheet.specs.Reading.{Reading, faulty, sound, of_words}
 use Rattle.tally.specs.Verdict.{Verdict, unless_faulty, verdict, of_verdict}
 use Rattle.counts.specs.Text.{lines, CountLine, counted, malformed, count_line}

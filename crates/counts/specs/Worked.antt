@@ -5,7 +5,8 @@ use Prim.Native.Char.{code}
 use Prim.Native.String.{String, [] as none, ◌∷◌ as ◌▸◌}
 use Rattle.probability.specs.Table.{same}
 use Rattle.sheet.specs.Sheet.{sheet_of}
-use Rattle.reply.specs.Reply.{Reply, numbers, same_reply}
+use Rattle.reply.specs.Reply.{numbers, same_reply}
+use Rattle.reply.specs.declared.Reply.{Reply}
 use Rattle.sheet.specs.Worked.{lift, example}
 use Rattle.counts.specs.Counts.{counts_reply, counts_output}
 

@@ -12,7 +12,8 @@ use Rattle.round.specs.declared.Held.{Held}
 use Rattle.round.specs.declared.Lift.{Lift}
 use Rattle.round.specs.declared.Selected.{Selected}
 use Rattle.round.specs.declared.Selected.TheVariants.{At, Short as Ended}
-use Rattle.reply.specs.Reply.{Numbered, Reply, numbers}
+use Rattle.reply.specs.Reply.{Numbered, numbers}
+use Rattle.reply.specs.declared.Reply.{Reply}
 use Rattle.tally.specs.Verdict.{Verdict, refused, fits}
 use Rattle.exports.specs.Reply.{DrawReply, RoundReply, CheckReply}
 

@@ -6,7 +6,8 @@ use mathlib.Core.List.{List, [], ◌∷◌}
 use native.Mathlib.Omega.{arith}
 use lib.ListN.{length, get_or, take, replicate, length-map}
 use Rattle.sheet.specs.Sheet.{largest_sum, Lift, lifts, sheet_of}
-use Rattle.reply.specs.Reply.{numbered, Reply, replied, of_refusal, unless_refused}
+use Rattle.reply.specs.Reply.{numbered, replied, of_refusal, unless_refused}
+use Rattle.reply.specs.declared.Reply.{Reply}
 use Rattle.reply.proofs.Replies.{left}
 use Rattle.probability.specs.Among.{among}
 use Rattle.sheet.specs.Reading.{Reading, faulty, of_words, Legible, reading_of}

@@ -9,7 +9,8 @@ use lib.ListN.{length}
 use borrow.Author.Tests.{ltb-false, lt-ltb, le-ltb}
 use Rattle.sheet.specs.Sheet.{Lift, lifts}
 use Rattle.reply.proofs.Replies.{left}
-use Rattle.reply.specs.Reply.{Numbered, numbered, Reply, replied, of_refusal, unless_refused}
+use Rattle.reply.specs.Reply.{Numbered, numbered, replied, of_refusal, unless_refused}
+use Rattle.reply.specs.declared.Reply.{Reply}
 use Rattle.tally.specs.Rounds.{in_use}
 use Rattle.tally.specs.Law.{FitBy, FittingBy, VerdictAndTables}
 use Rattle.tally.specs.Tables.{Tabled}

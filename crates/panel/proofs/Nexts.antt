@@ -6,7 +6,8 @@ use native.Mathlib.Omega.{arith}
 use lib.ListN.{length}
 use borrow.Author.Tests.{lt-ltb, le-ltb}
 use Rattle.sheet.specs.Sheet.{Lift, lifts, sheet_of}
-use Rattle.reply.specs.Reply.{Numbered, numbered, Reply, of_refusal, onto, unless_refused}
+use Rattle.reply.specs.Reply.{Numbered, numbered, of_refusal, onto, unless_refused}
+use Rattle.reply.specs.declared.Reply.{Reply}
 use Rattle.tally.specs.Rounds.{in_use}
 use Rattle.tally.specs.Verdict.{refused, fits, verdict, crowded}
 use Rattle.tally.specs.Law.{Fit}

@@ -4,7 +4,8 @@ use mathlib.Core.Path.{◌≡◌}
 use mathlib.Core.List.{List}
 use native.Mathlib.Omega.{arith}
 use borrow.Author.Tests.{ne_eqb}
-use Rattle.reply.specs.Reply.{Reply, unless_refused}
+use Rattle.reply.specs.Reply.{unless_refused}
+use Rattle.reply.specs.declared.Reply.{Reply}
 use Rattle.reply.specs.Refusal.{refusal_of}
 use Rattle.reply.specs.declared.Refusal.{Refusal}
 use Rattle.reply.specs.declared.Refusal.TheVariants.{Length, Sequence, Number, Place, Count, Mark, NotOneHeld, Oversize, ZeroSum, TooManyDonors, Start, Output, Words, Form, Lift, Uncounted, Next}

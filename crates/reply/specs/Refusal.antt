@@ -1,9 +1,10 @@
 -- The code's refusals and answers, with the document's number and values for each of their cases.
-use Rattle.reply.specs.Reply.{Numbered, numbered, Reply, replied, of_refusal}
+use Rattle.std.specs.Prelude.{Result, Ok, Err}
+use Rattle.reply.specs.Reply.{Numbered, numbered, replied, of_refusal}
 use Rattle.reply.specs.declared.Refusal.{Refusal}
 use Rattle.reply.specs.declared.Refusal.TheVariants.{Length, Sequence, Number, Place, Count, Mark, NotOneHeld, Oversize, ZeroSum, TooManyDonors, Start, Output, Words, Form, Lift, Uncounted, Next}
-use Rattle.reply.specs.declared.Answer.{Answer}
-use Rattle.reply.specs.declared.Answer.TheVariants.{Refused, Done}
+use Rattle.reply.specs.declared.Done.{Done}
+use Rattle.reply.specs.declared.Reply.{Reply}
 
 -- the document's number and place of each refusal; its sentence is quoted where it is tested
 abbrev pub refusal_of : Refusal → Numbered
@@ -25,7 +26,7 @@ refusal_of (Lift place) = numbered 15 place
 refusal_of (Uncounted place) = numbered 16 place
 refusal_of (Next place) = numbered 17 place
 
--- the reply that an answer stands for
-abbrev pub reply_of : Answer → Reply
-reply_of (Refused x) = of_refusal (refusal_of x)
-reply_of (Done many words) = replied many words
+-- the reply that a call's answer stands for
+abbrev pub reply_of : Result Done Refusal → Reply
+reply_of (Err x) = of_refusal (refusal_of x)
+reply_of (Ok done) = replied done.many done.words

@@ -1,5 +1,6 @@
 -- What a call replies, and what a refusal leaves of the lent lists.
 use Rattle.std.specs.Prelude.{ℕ, Bool, cond, ◌&&◌, List, ◌++◌, eqb, length, drop}
+use Rattle.reply.specs.declared.Reply.{Reply}
 
 -- a refusal by the document's number and its place
 pub record Numbered : Type 0 where
@@ -8,12 +9,6 @@ pub record Numbered : Type 0 where
 
 abbrev pub numbered : ℕ → ℕ → Numbered
 numbered n i = record { number = n; place = i }
-
--- a call's reply: its number, a place or a count, and how many random words it read
-pub record Reply : Type 0 where
-  pub number : ℕ
-  pub second : ℕ
-  pub third : ℕ
 
 abbrev pub numbers : ℕ → ℕ → ℕ → Reply
 numbers n a b = record { number = n; second = a; third = b }

@@ -75,62 +75,57 @@ impl Refusal {
         ensures { result ≡ (refusal_of self).place }
     {
         match self {
-            Refusal::Length(place) => place,
-            Refusal::Sequence(place) => place,
-            Refusal::Number(place) => place,
-            Refusal::Place(place) => place,
-            Refusal::Count(place) => place,
-            Refusal::Mark(place) => place,
-            Refusal::NotOneHeld(place) => place,
-            Refusal::Oversize(place) => place,
-            Refusal::ZeroSum(place) => place,
-            Refusal::TooManyDonors(place) => place,
-            Refusal::Start(place) => place,
-            Refusal::Output(place) => place,
-            Refusal::Words(place) => place,
-            Refusal::Form(place) => place,
-            Refusal::Lift(place) => place,
-            Refusal::Uncounted(place) => place,
-            Refusal::Next(place) => place,
+            Refusal::Length(place)
+            | Refusal::Sequence(place)
+            | Refusal::Number(place)
+            | Refusal::Place(place)
+            | Refusal::Count(place)
+            | Refusal::Mark(place)
+            | Refusal::NotOneHeld(place)
+            | Refusal::Oversize(place)
+            | Refusal::ZeroSum(place)
+            | Refusal::TooManyDonors(place)
+            | Refusal::Start(place)
+            | Refusal::Output(place)
+            | Refusal::Words(place)
+            | Refusal::Form(place)
+            | Refusal::Lift(place)
+            | Refusal::Uncounted(place)
+            | Refusal::Next(place) => place,
         }
     }
 }
 
-// The answer of a call: refused; or how many choices it made or lines it took, and how many random words it read.
+// What a call did that was not refused: how many choices it made or lines it took, and how many random words it read.
 #[derive(Clone, Copy)]
-pub enum Answer {
-    Refused(Refusal),
-    Done(usize, usize),
+pub struct Done {
+    pub many: usize,
+    pub words: usize,
 }
 
-impl Answer {
-    // The document's number, 0 where nothing is refused.
-    pub fn number(self) -> u32
-        ensures { result ≡ (reply_of self).number }
-    {
-        match self {
-            Answer::Refused(x) => x.number(),
-            Answer::Done(_, _) => 0,
-        }
-    }
+// A call's reply: its number, a place or a count, and how many random words it read.
+#[derive(Clone, Copy)]
+pub struct Reply {
+    pub number: u32,
+    pub second: usize,
+    pub third: usize,
+}
 
-    // The place of a refusal, or how many choices or lines there are.
-    pub fn second(self) -> usize
-        ensures { result ≡ (reply_of self).second }
-    {
-        match self {
-            Answer::Refused(x) => x.place(),
-            Answer::Done(many, _) => many,
-        }
-    }
+impl From<Result<Done, Refusal>> for Reply {
+    ghost from_gives = { λ answer reply. reply ≡ reply_of answer };
 
-    // How many random words were read.
-    pub fn third(self) -> usize
-        ensures { result ≡ (reply_of self).third }
-    {
-        match self {
-            Answer::Refused(_) => 0,
-            Answer::Done(_, words) => words,
+    fn from(answer: Result<Done, Refusal>) -> Reply {
+        match answer {
+            Ok(done) => Reply {
+                number: 0,
+                second: done.many,
+                third: done.words,
+            },
+            Err(refusal) => Reply {
+                number: refusal.number(),
+                second: refusal.place(),
+                third: 0,
+            },
         }
     }
 }

@@ -3,7 +3,8 @@ use Rattle.std.specs.Prelude.{ℕ, zero, suc, ◌+◌, ◌*◌, ◌/◌, ◌%◌
 use mathlib.Core.List.{List, [], ◌∷◌, ◌++◌, map, flat_map}
 use Rattle.probability.specs.Pieces.{pieces}
 use Rattle.sheet.specs.Sheet.{most_rounds, longest, payload, place_of, lifts}
-use Rattle.reply.specs.Reply.{Numbered, numbered, Reply}
+use Rattle.reply.specs.Reply.{Numbered, numbered}
+use Rattle.reply.specs.declared.Reply.{Reply}
 use Rattle.selection.specs.Choice.{fourth, Choice, Panel, chosen, short, panel, reply}
 
 -- ---- the files

@@ -11,12 +11,9 @@ use lib.ListN.{length, get_or, drop, drop_of_length-le}
 use lib.Seq.{drop-cons}
 use borrow.Author.Tests.{le-ltb, lt-leb, eq-eqb, ne_eqb, eqb-true}
 use Rattle.sheet.specs.Sheet.{most_rounds, largest_sum, not_counted, kind, payload, place_of, lift_kind, old_kind, new_kind, end_kind}
-use Rattle.sheet.specs.Reading.{next_state, may_follow, misnumbered, is_place, misplaced, uncounted_newcomer, miscounted, mismarked, fault, Reading, faulty, sound, unless_fault, read_from, reading, reading_of}
-use Rattle.reply.specs.Reply.{numbered}
+use Rattle.sheet.specs.Reading.{next_state, may_follow, misnumbered, is_place, misplaced, uncounted_newcomer, miscounted, mismarked, fault, Reading, faulty, sound, unless_fault, read_from, reading}
+use Rattle.reply.specs.Reply.{Numbered, numbered}
 use Rattle.sheet.specs.declared.ScanState.{ScanState}
-use Rattle.reply.specs.declared.Refusal.{Refusal}
-use Rattle.sheet.specs.declared.Judged.{Judged}
-use Rattle.sheet.specs.declared.Judged.TheVariants.{Faulty, Sound}
 
 -- a word's reading, then what follows if it is sound
 abbrev and_then : Reading → Reading → Reading
@@ -97,20 +94,19 @@ one_more s w n h = rw n (more (eqb (kind w) lift_kind) h)
     more true h = omega arith
     more false h = omega arith
 
-module _ {ws : List ℕ} {s : ScanState} {i : ℕ} {r : Judged} where
-  -- a turn whose word is judged x
-  turn : {x : Judged} → i < length ws → Kept ws s i → reading_of r ≡ unless_fault (fault s (get_or ws i 0)) i sound → r ≡ x
-      → and_then (reading_of x) (read_from (next_state s (get_or ws i 0)) (i + 1) (drop (i + 1) ws)) ≡ reading ws
+module _ {ws : List ℕ} {s : ScanState} {i : ℕ} where
+  -- a turn whose word reads as x
+  turn : {x : Reading} → i < length ws → Kept ws s i → x ≡ unless_fault (fault s (get_or ws i 0)) i sound
+      → and_then x (read_from (next_state s (get_or ws i 0)) (i + 1) (drop (i + 1) ws)) ≡ reading ws
   unfolding read_from
-  turn h k j e = rw (← e, j, unless_then (fault s (get_or ws i 0)) i, ← k.same, drop-cons ws i 0, add-one i)
+  turn h k j = rw (j, unless_then (fault s (get_or ws i 0)) i, ← k.same, drop-cons ws i 0, add-one i)
 
-  pub stops : {x : Refusal} → i < length ws → Kept ws s i → reading_of r ≡ unless_fault (fault s (get_or ws i 0)) i sound → r ≡ Faulty x
-      → reading_of (Faulty x) ≡ reading ws
-  stops h k j e = turn h k j e
+  pub stops : {x : Numbered} → i < length ws → Kept ws s i → faulty x ≡ unless_fault (fault s (get_or ws i 0)) i sound → faulty x ≡ reading ws
+  stops h k j = turn h k j
 
-  pub goes_on : {t : ScanState} → i < length ws → Kept ws s i → reading_of r ≡ unless_fault (fault s (get_or ws i 0)) i sound → r ≡ Sound
+  pub goes_on : {t : ScanState} → i < length ws → Kept ws s i → sound ≡ unless_fault (fault s (get_or ws i 0)) i sound
       → t ≡ next_state s (get_or ws i 0) → Kept ws t (i + 1)
-  goes_on h k j e n = record { same = rw n (turn h k j e); few = one_more s _ n k.few }
+  goes_on h k j n = record { same = rw n (turn h k j); few = one_more s _ n k.few }
 
 -- three turns at once, each by a word that is not faulty
 module _ {ws : List ℕ} {s t u v : ScanState} {i : ℕ} where
@@ -118,9 +114,9 @@ module _ {ws : List ℕ} {s t u v : ScanState} {i : ℕ} where
       → (fault s (get_or ws i 0) ≡ 0) × (fault (next_state s (get_or ws i 0)) (get_or ws (i + 1) 0) ≡ 0) × (fault (next_state (next_state s (get_or ws i 0)) (get_or ws (i + 1) 0)) (get_or ws (i + 2) 0) ≡ 0)
       → t ≡ next_state s (get_or ws i 0) → u ≡ next_state t (get_or ws (i + 1) 0) → v ≡ next_state u (get_or ws (i + 2) 0) → Kept ws v (i + 3)
   goes_on_three h k f p q r =
-      let a : Kept ws t (i + 1) = goes_on {r = Sound} (omega arith) k (rw f.0) refl p in
-      let b : Kept ws u (i + 1 + 1) = goes_on {r = Sound} (omega arith) a (rw (p, f.1)) refl q in
-      let c : Kept ws v (i + 2 + 1) = goes_on {r = Sound} (omega arith) (rw (add_assoc i 1 1) at b) (rw (q, p, f.2)) refl r in
+      let a : Kept ws t (i + 1) = goes_on (omega arith) k (rw f.0) p in
+      let b : Kept ws u (i + 1 + 1) = goes_on (omega arith) a (rw (p, f.1)) q in
+      let c : Kept ws v (i + 2 + 1) = goes_on (omega arith) (rw (add_assoc i 1 1) at b) (rw (q, p, f.2)) r in
       rw (add_assoc i 2 1) at c
 
 module _ {ws : List ℕ} {s : ScanState} {i : ℕ} (past : length ws ≤ i) (kept : Kept ws s i) where

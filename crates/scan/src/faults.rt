@@ -4,7 +4,7 @@ ghost use Rattle.sheet.specs.Sheet.{longest};
 ghost use Rattle.sheet.specs.Reading.{next_state as next_of, may_follow as follows_of, misnumbered as misnumbered_of, is_place, too_large as too_large_of, beyond as beyond_of, misplaced as misplaced_of, uncounted_newcomer as uncounted_newcomer_of, miscounted as miscounted_of, mismarked as mismarked_of, fault, unless_fault, sound, reading_of};
 
 use reply::Refusal;
-use sheet::{Judged, ScanState, Sheet};
+use sheet::{ScanState, Sheet};
 
 // Whether a kind may follow another.
 pub fn follows(before: u32, kind: u32) -> bool
@@ -89,39 +89,39 @@ fn mismarked(s: ScanState, word: u32) -> bool
 }
 
 // The refusal that a word at position i meets, if it is 4 or 16.
-fn judge_place(s: ScanState, word: u32, i: usize) -> Judged
+fn judge_place(s: ScanState, word: u32, i: usize) -> Result<(), Refusal>
     ensures { reading_of result ≡ unless_fault (cond (misplaced_of word) 4 (cond (uncounted_newcomer_of s word) 16 0)) i sound }
 {
     if misplaced(word) {
-        return Judged::Faulty(Refusal::Place(i));
+        return Err(Refusal::Place(i));
     }
     if uncounted_newcomer(s, word) {
-        return Judged::Faulty(Refusal::Uncounted(i));
+        return Err(Refusal::Uncounted(i));
     }
-    Judged::Sound
+    Ok(())
 }
 
 // The refusal that a word at position i meets; a place meets no other than 2, 4 and 16.
-pub fn judge(s: ScanState, word: u32, i: usize) -> Judged
+pub fn judge(s: ScanState, word: u32, i: usize) -> Result<(), Refusal>
     ensures { reading_of result ≡ unless_fault (fault s word) i sound }
 {
     let kind = Sheet::kind(word);
     if !follows(s.kind, kind) {
-        return Judged::Faulty(Refusal::Sequence(i));
+        return Err(Refusal::Sequence(i));
     }
     if is_place(kind) {
         return judge_place(s, word, i);
     }
     if misnumbered(s, word) {
-        return Judged::Faulty(Refusal::Number(i));
+        return Err(Refusal::Number(i));
     }
     if miscounted(s, word) {
-        return Judged::Faulty(Refusal::Count(i));
+        return Err(Refusal::Count(i));
     }
     if mismarked(s, word) {
-        return Judged::Faulty(Refusal::Mark(i));
+        return Err(Refusal::Mark(i));
     }
-    Judged::Sound
+    Ok(())
 }
 
 // The state of the scan after one more word.

@@ -5,7 +5,7 @@ ghost use Rattle.sheet.specs.Reading.{next_state as next_of, misplaced as mispla
 
 use crate::faults::{follows, judge, next};
 use reply::Refusal;
-use sheet::{Judged, ScanState, Sheet};
+use sheet::{ScanState, Sheet};
 
 // Whether a word is of a kind and holds a place whose measure is counted: of a round from 1 to 100, or round 0 with measure 0.
 fn is_counted_place(kind: u32, word: u32) -> bool
@@ -44,7 +44,7 @@ fn is_sound_lift(s: ScanState, lift: u32, old: u32, new: u32) -> bool
 }
 
 // The first faulty word of words that are not too many; three sound words of a lift are read in one turn.
-fn read_words(sheet: &[u32]) -> Judged
+fn read_words(sheet: &[u32]) -> Result<(), Refusal>
     requires { length sheet.now ≤ longest }
     ensures { reading_of result ≡ reading sheet.now }
 {
@@ -66,29 +66,23 @@ fn read_words(sheet: &[u32]) -> Judged
                 continue;
             }
         }
-        match judge(s, word, i) {
-            Judged::Faulty(x) => {
-                return Judged::Faulty(x);
-            }
-            Judged::Sound => {
-                s = next(s, word);
-            }
-        }
+        judge(s, word, i)?;
+        s = next(s, word);
         i += 1;
     }
     if s.kind == Sheet::END {
-        return Judged::Sound;
+        return Ok(());
     }
-    Judged::Faulty(Refusal::Sequence(i))
+    Err(Refusal::Sequence(i))
 }
 
 // The answer to words alone: one of the refusals 1 to 6 and 16, or sound.
-pub fn read(sheet: &[u32]) -> Judged
+pub fn read(sheet: &[u32]) -> Result<(), Refusal>
     ensures { reading_of result ≡ of_words sheet.now }
 {
     let n = sheet.len();
     if n == 0 || Sheet::LONGEST < n {
-        return Judged::Faulty(Refusal::Length(n));
+        return Err(Refusal::Length(n));
     }
     read_words(sheet)
 }

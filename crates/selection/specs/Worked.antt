@@ -5,7 +5,8 @@ use Rattle.std.specs.Prelude.{ℕ, ◌-◌, ◌^◌, Bool, true, false, not, ◌
 use Rattle.probability.specs.Fraction.{◌//◌}
 use Rattle.probability.specs.Table.{same, same_fraction}
 use Rattle.sheet.specs.Sheet.{Lift, sheet_of}
-use Rattle.reply.specs.Reply.{Reply, numbers, same_reply}
+use Rattle.reply.specs.Reply.{numbers, same_reply}
+use Rattle.reply.specs.declared.Reply.{Reply}
 use Rattle.sheet.specs.Worked.{lift, example}
 use Rattle.selection.specs.Choice.{fourth, reply, output}
 use Rattle.selection.specs.Fair.{share, kept}

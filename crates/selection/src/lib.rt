@@ -1,3 +1,10 @@
 #![tactic(auto)]
 
-// The whole choice as a definition, and demand 3 as a theorem of it: no code.
+// The whole choice as a definition, and demand 3 as a theorem of it; of code the type of a lift chosen alone.
+
+// A lift chosen in a round: its number, and the document's outcome.
+#[derive(Clone, Copy)]
+pub struct Pick {
+    pub number: u32,
+    pub outcome: u32,
+}

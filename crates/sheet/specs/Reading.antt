@@ -1,12 +1,11 @@
 -- Refusals 1 to 6 of document 01 and 16 of document 02 (Card 2): the length, and the words one by one, "the first faulty word deciding, 2
 -- before the others".
-use Rattle.std.specs.Prelude.{ℕ, zero, suc, ◌+◌, ◌≤◌, ◌≡◌, Bool, false, cond, not, ◌&&◌, ◌||◌, List, [], ◌∷◌, length, eqb, leb, ltb}
+use Rattle.std.specs.Prelude.{ℕ, zero, suc, ◌+◌, ◌≤◌, ◌≡◌, Bool, false, cond, not, ◌&&◌, ◌||◌, List, [], ◌∷◌, length, eqb, leb, ltb, Result, Ok, Err}
 use Rattle.sheet.specs.Sheet.{most_lifts, most_rounds, largest_sum, longest, not_counted, kind, payload, lift_kind, old_kind, new_kind, held_kind, end_kind, place_of}
 use Rattle.reply.specs.Reply.{Numbered, numbered}
 use Rattle.reply.specs.Refusal.{refusal_of}
+use Rattle.reply.specs.declared.Refusal.{Refusal}
 use Rattle.sheet.specs.declared.ScanState.{ScanState}
-use Rattle.sheet.specs.declared.Judged.{Judged}
-use Rattle.sheet.specs.declared.Judged.TheVariants.{Faulty, Sound}
 
 -- "1. Length 0 or above 12,389 words."
 abbrev pub mislong : List ℕ → Bool
@@ -118,6 +117,6 @@ pub record Legible (ws : List ℕ) : Type 0 where
 -- ---- the code's answer
 
 -- the reading that an answer to words alone stands for
-abbrev pub reading_of : Judged → Reading
-reading_of (Faulty x) = faulty (refusal_of x)
-reading_of Sound = sound
+abbrev pub reading_of : Result (Unit {0}) Refusal → Reading
+reading_of (Err x) = faulty (refusal_of x)
+reading_of (Ok _) = sound

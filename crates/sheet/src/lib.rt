@@ -4,8 +4,6 @@
 ghost use Rattle.std.specs.Prelude.{◌≡◌, ◌+◌, ◌*◌, ◌^◌, ◌<◌};
 ghost use Rattle.sheet.specs.Sheet.{kind as kind_of, payload as payload_of, place_of, word as word_of};
 
-use reply::Refusal;
-
 // A sheet that fits: how many lifts and how many new rounds it has.
 #[derive(Clone, Copy)]
 pub struct Sheet {
@@ -93,13 +91,6 @@ impl Sheet {
     {
         round * Self::MEASURES + measure
     }
-}
-
-// The answer to words alone.
-#[derive(Drop)]
-pub enum Judged {
-    Faulty(Refusal),
-    Sound,
 }
 
 // The state of the scan: the kind of the last word, 0 before the first, the number of the last lift, the word of its old place, and

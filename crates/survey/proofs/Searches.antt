@@ -1,4 +1,5 @@
 -- The rounds that pass a test, as the loops go through them: what the rounds from r up give is what is still to be found.
+use Rattle.std.specs.Prelude.{Some, None}
 use Prim.Native.Nat.{ℕ, ◌+◌, ◌≤◌, ◌<◌}
 use mathlib.Core.Path.{◌≡◌, ap}
 use mathlib.Core.Bool.{Bool, true}
@@ -9,15 +10,14 @@ use Rattle.probability.proofs.Sums.{indicator_le, length_cond}
 use Rattle.sheet.specs.Sheet.{most_rounds}
 use Rattle.tally.specs.Rounds.{rounds}
 use Rattle.tally.specs.Tables.{found_first}
-use Rattle.tally.specs.declared.Found.TheVariants.{At, Nothing}
 use Rattle.tally.proofs.Ranges.{from, from_step, from_none, Sought, sought_here, sought_end}
 
 -- a search finds the first round that passes, or none
 module _ {p : ℕ → Bool} {r : ℕ} where
-  pub found : {t : Bool} → Sought p 1 r → r ≤ most_rounds → t ≡ p r → t ≡ true → At r ≡ found_first (rounds p)
+  pub found : {t : Bool} → Sought p 1 r → r ≤ most_rounds → t ≡ p r → t ≡ true → Some r ≡ found_first (rounds p)
   found d h e q = ap found_first (sought_here d h e q)
 
-  pub missed : most_rounds < r → Sought p 1 r → Nothing ≡ found_first (rounds p)
+  pub missed : most_rounds < r → Sought p 1 r → None ≡ found_first (rounds p)
   missed h d = ap found_first (sought_end h d)
 
 -- a count: the rounds counted and those from r up are all

@@ -9,11 +9,11 @@ ghost use Rattle.sheet.specs.Reading.{Legible};
 ghost use Rattle.tally.specs.Rounds.{rounds};
 ghost use Rattle.tally.specs.Verdict.{breaks as breaks_of, of_rounds, verdict, verdict_of};
 ghost use Rattle.tally.specs.Tables.{bit_of, donor_counts, Tabled, found_first as first_of};
-ghost use Rattle.tally.specs.Law.{VerdictAndTables};
+ghost use Rattle.tally.specs.Law.{FitsWithTables, VerdictAndTables};
 
 use reply::Refusal;
-use sheet::{Judged, Sheet};
-use tally::{Checked, Examined, Found, Rule, Tallies};
+use sheet::Sheet;
+use tally::{Examined, Rule, Tallies};
 
 // ---- the tables
 
@@ -86,17 +86,17 @@ fn first_breaking<'a>(
     rule: Rule,
     lifts: &'a [u64; Sheet::TABLE],
     numbers: &'a [u64; Sheet::TABLE],
-) -> Found
+) -> Option<usize>
     ensures { result ≡ first_of (rounds (λ t. breaks_of rule (get_or lifts.now t 0) (get_or numbers.now t 0))) }
 {
     let mut r = 1;
     while r <= Sheet::MOST_ROUNDS {
         if breaks(rule, lifts[r], numbers[r]) {
-            return Found::At(r);
+            return Some(r);
         }
         r += 1;
     }
-    Found::Nothing
+    None
 }
 
 // 1 for a number above 0, else 0.
@@ -130,8 +130,8 @@ fn count_bits(low: u64, high: u64) -> u64
 }
 
 // How many donors each new round has, from its two words.
-fn donor_counts(words: [u64; 2 * Sheet::TABLE]) -> [u64; Sheet::TABLE]
-    ensures { result ≡ donor_counts words }
+fn donor_counts(words: &[u64; 2 * Sheet::TABLE]) -> [u64; Sheet::TABLE]
+    ensures { result ≡ donor_counts words.now }
 {
     let mut counts = [0u64; Sheet::TABLE];
     let mut r = 0;
@@ -145,84 +145,53 @@ fn donor_counts(words: [u64; 2 * Sheet::TABLE]) -> [u64; Sheet::TABLE]
 // ---- the verdict
 
 // The answer to a legible sheet up to refusal 9, from its tables.
-fn check_rounds(sheet: &[u32], t: Tallies) -> Checked
+fn check_rounds(sheet: &[u32], t: &Tallies) -> Result<Sheet, Refusal>
     requires legible { Legible sheet.now }
-    requires tabled { Tabled (lifts sheet.now) t }
+    requires tabled { Tabled (lifts sheet.now) t.now }
     ensures { verdict_of result ≡ of_rounds [] (lifts sheet.now) }
 {
-    if let Found::At(r) = first_breaking(Rule::OneHeld, &t.old_lifts, &t.held) {
-        return Checked::Refused(Refusal::NotOneHeld(r));
+    if let Some(r) = first_breaking(Rule::OneHeld, &t.old_lifts, &t.held) {
+        return Err(Refusal::NotOneHeld(r));
     }
-    if let Found::At(r) = first_breaking(Rule::SmallSum, &t.old_lifts, &t.old_sums) {
-        return Checked::Refused(Refusal::Oversize(r));
+    if let Some(r) = first_breaking(Rule::SmallSum, &t.old_lifts, &t.old_sums) {
+        return Err(Refusal::Oversize(r));
     }
-    if let Found::At(r) = first_breaking(Rule::SmallSum, &t.new_lifts, &t.new_sums) {
-        return Checked::Refused(Refusal::Oversize(r));
+    if let Some(r) = first_breaking(Rule::SmallSum, &t.new_lifts, &t.new_sums) {
+        return Err(Refusal::Oversize(r));
     }
-    if let Found::At(r) = first_breaking(Rule::SomeMeasure, &t.new_lifts, &t.new_sums) {
-        return Checked::Refused(Refusal::ZeroSum(r));
+    if let Some(r) = first_breaking(Rule::SomeMeasure, &t.new_lifts, &t.new_sums) {
+        return Err(Refusal::ZeroSum(r));
     }
-    Checked::Fits(Sheet {
+    Ok(Sheet {
         lifts: scan::size(sheet),
         rounds: in_use(&t.new_lifts),
     })
 }
 
-// A refusal of words, with empty tables.
-fn refuse(x: Refusal) -> Examined
-    ensures { result.checked ≡ Checked.Refused x }
-{
-    let zeros = [0u64; Sheet::TABLE];
-    let tallies = Tallies {
-        old_lifts: zeros,
-        held: zeros,
-        old_sums: zeros,
-        new_lifts: zeros,
-        new_sums: zeros,
-        donors: [0u64; 2 * Sheet::TABLE],
-    };
-    Examined {
-        checked: Checked::Refused(x),
-        tallies,
-    }
-}
-
 // The answer to any words by refusals 1 to 9 and 16: refused, with the document's number and place, or fitting, with the tables by round.
-pub fn examine(sheet: &[u32]) -> Examined
+pub fn examine(sheet: &[u32]) -> Result<Examined, Refusal>
     ensures { VerdictAndTables sheet.now result }
 {
-    match scan::read(sheet) {
-        Judged::Faulty(x) => refuse(x),
-        Judged::Sound => {
-            let tallies = survey(sheet);
-            Examined {
-                checked: check_rounds(sheet, tallies),
-                tallies,
-            }
-        }
-    }
+    scan::read(sheet)?;
+    let tallies = survey(sheet);
+    let sheet = check_rounds(sheet, &tallies)?;
+    Ok(Examined { sheet, tallies })
 }
 
-// The answer with refusal 10 behind 9, from the answer up to 9 and its tables.
-pub fn with_donors(e: Examined) -> Checked
-    ensures { (ws : List ℕ) → VerdictAndTables ws e → verdict_of result ≡ verdict ws }
+// The answer with refusal 10 behind 9, for a sheet that fits up to 9.
+pub fn with_donors(e: &Examined) -> Result<Sheet, Refusal>
+    ensures { (ws : List ℕ) → FitsWithTables ws e.now → verdict_of result ≡ verdict ws }
 {
-    let checked = e.checked;
-    match checked {
-        Checked::Refused(_) => checked,
-        Checked::Fits(_) => {
-            let donors = donor_counts(e.tallies.donors);
-            match first_breaking(Rule::FewDonors, &e.tallies.new_lifts, &donors) {
-                Found::At(r) => Checked::Refused(Refusal::TooManyDonors(r)),
-                Found::Nothing => checked,
-            }
-        }
+    let donors = donor_counts(&e.tallies.donors);
+    match first_breaking(Rule::FewDonors, &e.tallies.new_lifts, &donors) {
+        Some(r) => Err(Refusal::TooManyDonors(r)),
+        None => Ok(e.sheet),
     }
 }
 
 // The answer to any words: refused, with the document's number and place, or fitting.
-pub fn check(sheet: &[u32]) -> Checked
+pub fn check(sheet: &[u32]) -> Result<Sheet, Refusal>
     ensures { verdict_of result ≡ verdict sheet.now }
 {
-    with_donors(examine(sheet))
+    with_donors(&examine(sheet)?)
 }

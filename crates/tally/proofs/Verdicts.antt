@@ -3,6 +3,7 @@ use Prim.Native.Nat.{ℕ, ◌+◌, ◌*◌, ◌≤◌}
 use mathlib.Core.Path.{◌≡◌, refl, sym, ap, ap₂, subst, ◌∙◌}
 use mathlib.Core.Bool.{Bool}
 use mathlib.Core.List.{List, [], ◌∷◌, map}
+use Rattle.std.specs.Prelude.{Option, Some, None, Ok}
 use native.Mathlib.Omega.{arith}
 use lib.Dec.{ltb}
 use lib.Count.{ones}
@@ -14,18 +15,13 @@ use Rattle.tally.specs.Rounds.{rounds, lift_count, in_use, donors}
 use Rattle.tally.specs.Verdict.{Verdict, refused, fits, breaks, not_one_held, oversize, zero_sum, too_many_donors, first_round, first_refusal, crowded, nothing_more, of_rounds, unless_faulty, verdict_by, verdict, verdict_of}
 use Rattle.reply.specs.Refusal.{refusal_of}
 use Rattle.tally.specs.Tables.{table, donor_bits, donor_counts, found_first}
-use Rattle.tally.specs.Law.{Nowhere, FitBy, Fit, FittingBy, DecidedTheorem, VerdictAndTables}
+use Rattle.tally.specs.Law.{Nowhere, FitBy, Fit, FittingBy, DecidedTheorem, FitsWithTables}
 use Rattle.sheet.specs.Lift.{Old, New}
 use Rattle.tally.specs.declared.Rule.{Rule}
 use Rattle.tally.specs.declared.Rule.TheVariants.{FewDonors}
-use Rattle.sheet.specs.declared.Sheet.{Sheet}
 use Rattle.reply.specs.declared.Refusal.{Refusal}
 use Rattle.reply.specs.declared.Refusal.TheVariants.{TooManyDonors}
-use Rattle.tally.specs.declared.Checked.{Checked}
-use Rattle.tally.specs.declared.Checked.TheVariants.{Refused, Fits}
 use Rattle.tally.specs.declared.Examined.{Examined}
-use Rattle.tally.specs.declared.Found.{Found}
-use Rattle.tally.specs.declared.Found.TheVariants.{At, Nothing}
 use Rattle.tally.proofs.Tables.{get_or_tabulate, length_tabulate, tabulated}
 use Rattle.tally.proofs.Sending.{low_word, high_word, donors_count}
 use Rattle.tally.proofs.Numbers.{Above, above}
@@ -43,7 +39,7 @@ tested test f g ea eb =
     (λ t l h. ap₂ test (ap (λ x. get_or x t 0) ea ∙ get_or_tabulate (most_rounds + 1) f t h) (ap (λ x. get_or x t 0) eb ∙ get_or_tabulate (most_rounds + 1) g t h))
 
 -- what the code's search finds is the first round that breaks a rule
-pub found : (rule : Rule) (f g : ℕ → ℕ) {a b : List ℕ} {x : Found} → a ≡ table f → b ≡ table g → x ≡ found_first (rounds (λ t. breaks rule (get_or a t 0) (get_or b t 0)))
+pub found : (rule : Rule) (f g : ℕ → ℕ) {a b : List ℕ} {x : Option ℕ} → a ≡ table f → b ≡ table g → x ≡ found_first (rounds (λ t. breaks rule (get_or a t 0) (get_or b t 0)))
     → x ≡ found_first (rounds (λ t. breaks rule (f t) (g t)))
 found rule f g ea eb e = e ∙ ap found_first (tested (breaks rule) f g ea eb)
 
@@ -61,37 +57,37 @@ counted {ws} {words} l ew ec =
 -- ---- the ways out
 
 -- a refusal that meets a round, and one that meets none
-met : (n : ℕ) {r : ℕ} (rs : List ℕ) (v : Verdict) → At r ≡ found_first rs → refused (numbered n r) ≡ first_round n rs v
+met : (n : ℕ) {r : ℕ} (rs : List ℕ) (v : Verdict) → Some r ≡ found_first rs → refused (numbered n r) ≡ first_round n rs v
 unfolding first_round
 met n [] v e = cc
 met n (x ∷ rs) v e = cc
 
-unmet : (n : ℕ) (rs : List ℕ) (v : Verdict) → Nothing ≡ found_first rs → v ≡ first_round n rs v
+unmet : (n : ℕ) (rs : List ℕ) (v : Verdict) → None ≡ found_first rs → v ≡ first_round n rs v
 unfolding first_round
 unmet n [] v e = refl
 unmet n (r ∷ rs) v e = cc
 
 module _ (ls : List Lift) where
-  pub at_not_one_held : {r : ℕ} → At r ≡ found_first (rounds (not_one_held ls)) → refused (numbered 7 r) ≡ of_rounds [] ls
+  pub at_not_one_held : {r : ℕ} → Some r ≡ found_first (rounds (not_one_held ls)) → refused (numbered 7 r) ≡ of_rounds [] ls
   unfolding of_rounds
   at_not_one_held e = met 7 _ _ e
 
-  module _ (a : Nothing ≡ found_first (rounds (not_one_held ls))) where
-    pub at_old : {r : ℕ} → At r ≡ found_first (rounds (oversize Old ls)) → refused (numbered 8 r) ≡ of_rounds [] ls
+  module _ (a : None ≡ found_first (rounds (not_one_held ls))) where
+    pub at_old : {r : ℕ} → Some r ≡ found_first (rounds (oversize Old ls)) → refused (numbered 8 r) ≡ of_rounds [] ls
     unfolding of_rounds
     at_old e = met 8 _ _ e ∙ unmet 7 _ _ a
 
-    module _ (b : Nothing ≡ found_first (rounds (oversize Old ls))) where
-      pub at_new : {r : ℕ} → At r ≡ found_first (rounds (oversize New ls)) → refused (numbered 8 r) ≡ of_rounds [] ls
+    module _ (b : None ≡ found_first (rounds (oversize Old ls))) where
+      pub at_new : {r : ℕ} → Some r ≡ found_first (rounds (oversize New ls)) → refused (numbered 8 r) ≡ of_rounds [] ls
       unfolding of_rounds
       at_new e = met 8 _ _ e ∙ unmet 8 _ _ b ∙ unmet 7 _ _ a
 
-      module _ (c : Nothing ≡ found_first (rounds (oversize New ls))) where
-        pub at_zero_sum : {r : ℕ} → At r ≡ found_first (rounds (zero_sum ls)) → refused (numbered 9 r) ≡ of_rounds [] ls
+      module _ (c : None ≡ found_first (rounds (oversize New ls))) where
+        pub at_zero_sum : {r : ℕ} → Some r ≡ found_first (rounds (zero_sum ls)) → refused (numbered 9 r) ≡ of_rounds [] ls
         unfolding of_rounds
         at_zero_sum e = met 9 _ _ e ∙ unmet 8 _ _ c ∙ unmet 8 _ _ b ∙ unmet 7 _ _ a
 
-        pub at_last : Nothing ≡ found_first (rounds (zero_sum ls)) → fits (length ls) (length (in_use New ls)) ≡ of_rounds [] ls
+        pub at_last : None ≡ found_first (rounds (zero_sum ls)) → fits (length ls) (length (in_use New ls)) ≡ of_rounds [] ls
         unfolding of_rounds first_refusal
         at_last e = unmet 9 _ _ e ∙ unmet 8 _ _ c ∙ unmet 8 _ _ b ∙ unmet 7 _ _ a
 
@@ -182,13 +178,6 @@ few_donors {ls} f = none (too_many_donors ls) (unmapped (rounds (too_many_donors
 pub donors_fit : (ls : List Lift) → Nowhere (too_many_donors ls) → crowded ls ≡ []
 donors_fit ls h = ap (map TooManyDonors) (clear (too_many_donors ls) h)
 
--- ---- the answer with the tables
-
--- a sheet that is refused does not fit, so nothing is asked of its tables
-pub answered_refused : {ws : List ℕ} {x : Refusal} {e : Examined} → e.checked ≡ Refused x → refused (refusal_of x) ≡ verdict_by nothing_more ws → VerdictAndTables ws e
-answered_refused {ws} {x} q h =
-    record { verdict = ap verdict_of q ∙ h; tables = λ f. let p = (decided nothing_more ws).passes f in let z : ◌≡◌ {A = ℕ} 0 1 = cc in absurd (omega arith) }
-
 -- ---- refusals behind 9
 
 -- what some refusals make of a verdict that comes before them
@@ -218,23 +207,23 @@ behind_nine refuses ws =
     let xs = refuses (lifts ws) in
     behind_word xs (of_words ws) _ (behind_round xs 7 _ _ (behind_round xs 8 _ _ (behind_round xs 8 _ _ (behind_round xs 9 _ _ refl))))
 
-module _ {ws : List ℕ} {e : Examined} (a : VerdictAndTables ws e) where
-  behind_answer : {y : Checked} → e.checked ≡ y → behind (crowded (lifts ws)) (verdict_of y) ≡ verdict ws
-  behind_answer q = ap (behind (crowded (lifts ws))) (sym (ap verdict_of q) ∙ a.verdict) ∙ behind_nine crowded ws
+-- a sheet that is refused up to 9 is refused with more behind 9
+pub still_refused : (ws : List ℕ) (x : Refusal) → refused (refusal_of x) ≡ verdict_by nothing_more ws → refused (refusal_of x) ≡ verdict ws
+still_refused ws x q = ap (behind (crowded (lifts ws))) q ∙ behind_nine crowded ws
 
-  pub still_refused : {x : Refusal} → e.checked ≡ Refused x → verdict_of e.checked ≡ verdict ws
-  still_refused q = ap verdict_of q ∙ behind_answer q
+module _ {ws : List ℕ} {e : Examined} (a : FitsWithTables ws e) where
+  behind_answer : behind (crowded (lifts ws)) (verdict_of (Ok e.sheet)) ≡ verdict ws
+  behind_answer = ap (behind (crowded (lifts ws))) a.verdict ∙ behind_nine crowded ws
 
-  module _ {s : Sheet} {counts : List ℕ} {f : Found} (q : e.checked ≡ Fits s) (c : counts ≡ donor_counts e.tallies.donors)
+  module _ {counts : List ℕ} {f : Option ℕ} (c : counts ≡ donor_counts e.tallies.donors)
       (d : f ≡ found_first (rounds (λ t. breaks FewDonors (get_or e.tallies.new_lifts t 0) (get_or counts t 0)))) where
     found_crowded : f ≡ found_first (rounds (too_many_donors (lifts ws)))
     found_crowded =
-        let x = ((decided nothing_more ws).only _ _ (sym a.verdict ∙ ap verdict_of q)).0 in
-        let t = a.tables x in
-        found FewDonors _ _ t.new_lifts (counted x.legible t.donors c) d
+        let x = ((decided nothing_more ws).only _ _ (sym a.verdict)).0 in
+        found FewDonors _ _ a.tables.new_lifts (counted x.legible a.tables.donors c) d
 
-    pub at_too_many_donors : {r : ℕ} → f ≡ At r → refused (numbered 10 r) ≡ verdict ws
-    at_too_many_donors g = met 10 _ _ (sym g ∙ found_crowded) ∙ ten (rounds (too_many_donors (lifts ws))) _ ∙ behind_answer q
+    pub at_too_many_donors : {r : ℕ} → f ≡ Some r → refused (numbered 10 r) ≡ verdict ws
+    at_too_many_donors g = met 10 _ _ (sym g ∙ found_crowded) ∙ ten (rounds (too_many_donors (lifts ws))) _ ∙ behind_answer
 
-    pub still_fits : f ≡ Nothing → verdict_of e.checked ≡ verdict ws
-    still_fits g = ap verdict_of q ∙ unmet 10 _ _ (sym g ∙ found_crowded) ∙ ten (rounds (too_many_donors (lifts ws))) _ ∙ behind_answer q
+    pub still_fits : f ≡ None → verdict_of (Ok e.sheet) ≡ verdict ws
+    still_fits g = unmet 10 _ _ (sym g ∙ found_crowded) ∙ ten (rounds (too_many_donors (lifts ws))) _ ∙ behind_answer

@@ -1,5 +1,5 @@
 -- Which lifts and which sheets fit, and what is proved of the verdict and of the answer with the tables.
-use Rattle.std.specs.Prelude.{ℕ, ◌≤◌, ◌<◌, ◌≡◌, Bool, false, List, [], length}
+use Rattle.std.specs.Prelude.{ℕ, ◌≤◌, ◌<◌, ◌≡◌, Bool, false, List, [], length, Result, Ok, Err}
 use Rattle.reply.specs.Reply.{Numbered}
 use Rattle.reply.specs.declared.Refusal.{Refusal}
 use Rattle.sheet.specs.Sheet.{most_rounds, Lift, lifts}
@@ -56,7 +56,12 @@ DecidedTheorem = (refuses : List Lift → List Refusal) (ws : List ℕ) → Deci
 
 -- ---- the answer with the tables
 
+-- a sheet that fits with nothing behind 9: the verdict says so, and the tables are those of its lifts
+pub record FitsWithTables (ws : List ℕ) (e : Examined) : Type 0 where
+  pub verdict : verdict_of (Ok e.sheet) ≡ verdict_by nothing_more ws
+  pub tables : Tabled (lifts ws) e.tallies
+
 -- the answer to a sheet with nothing behind 9: the verdict and, if the sheet fits, its tables
-pub record VerdictAndTables (ws : List ℕ) (e : Examined) : Type 0 where
-  pub verdict : verdict_of e.checked ≡ verdict_by nothing_more ws
-  pub tables : FittingBy nothing_more ws → Tabled (lifts ws) e.tallies
+abbrev pub VerdictAndTables : List ℕ → Result Examined Refusal → Type 0
+VerdictAndTables ws (Ok e) = FitsWithTables ws e
+VerdictAndTables ws (Err x) = verdict_of (Err x) ≡ verdict_by nothing_more ws

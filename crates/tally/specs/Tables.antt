@@ -1,13 +1,11 @@
 -- The tables by round, as the code gathers them.
-use Rattle.std.specs.Prelude.{ℕ, zero, suc, ◌+◌, ◌*◌, ◌/◌, ◌%◌, Bool, ◌&&◌, ◌≡◌, List, [], ◌∷◌, eqb, ltb, get_or}
+use Rattle.std.specs.Prelude.{ℕ, zero, suc, ◌+◌, ◌*◌, ◌/◌, ◌%◌, Bool, ◌&&◌, ◌≡◌, List, [], ◌∷◌, eqb, ltb, get_or, Option, Some, None}
 use Rattle.std.specs.Int.Count.{ones}
 use Rattle.probability.specs.Sum.{indicator}
 use Rattle.sheet.specs.Sheet.{most_rounds, Lift}
 use Rattle.tally.specs.Rounds.{lift_count, sum_of, held_count, sends}
 use Rattle.sheet.specs.Lift.{Old, New}
 use Rattle.tally.specs.declared.Tallies.{Tallies}
-use Rattle.tally.specs.declared.Found.{Found}
-use Rattle.tally.specs.declared.Found.TheVariants.{At, Nothing}
 
 -- f 0, f 1, .. f (n - 1)
 unfoldable pub tabulate : ℕ → (ℕ → ℕ) → List ℕ
@@ -45,6 +43,6 @@ pub record Tabled (ls : List Lift) (t : Tallies) : Type 0 where
   pub donors : t.donors ≡ donor_bits ls
 
 -- the first of some rounds, if there is one
-abbrev pub found_first : List ℕ → Found
-found_first [] = Nothing
-found_first (r ∷ rs) = At r
+abbrev pub found_first : List ℕ → Option ℕ
+found_first [] = None
+found_first (r ∷ rs) = Some r

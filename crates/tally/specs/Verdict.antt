@@ -1,7 +1,8 @@
 -- "Refused because of the sheet" of document 01.
-use Rattle.std.specs.Prelude.{ℕ, Bool, not, ◌&&◌, List, [], ◌∷◌, map, length, eqb, leb, ltb}
+use Rattle.std.specs.Prelude.{ℕ, Bool, not, ◌&&◌, List, [], ◌∷◌, map, length, eqb, leb, ltb, Result, Ok, Err}
 use Rattle.sheet.specs.Sheet.{largest_sum, Lift, lifts}
-use Rattle.reply.specs.Reply.{Numbered, numbered, Reply, of_refusal}
+use Rattle.reply.specs.Reply.{Numbered, numbered, of_refusal}
+use Rattle.reply.specs.declared.Reply.{Reply}
 use Rattle.reply.specs.Refusal.{refusal_of}
 use Rattle.reply.specs.declared.Refusal.{Refusal}
 use Rattle.reply.specs.declared.Refusal.TheVariants.{TooManyDonors}
@@ -10,8 +11,7 @@ use Rattle.tally.specs.Rounds.{rounds, lift_count, in_use, sum_of, held_count, d
 use Rattle.sheet.specs.Lift.{Side, Old, New}
 use Rattle.tally.specs.declared.Rule.{Rule}
 use Rattle.tally.specs.declared.Rule.TheVariants.{OneHeld, SmallSum, SomeMeasure, FewDonors}
-use Rattle.tally.specs.declared.Checked.{Checked}
-use Rattle.tally.specs.declared.Checked.TheVariants.{Refused, Fits}
+use Rattle.sheet.specs.declared.Sheet.{Sheet}
 
 -- the verdict on a sheet: a refusal by number and place, or that it fits, with how many lifts and new rounds it has
 pub data Verdict : Type 0 where
@@ -93,6 +93,6 @@ of_verdict (fits n rounds) reply = reply rounds
 -- ---- the code's answer
 
 -- the verdict that an answer to a sheet stands for
-abbrev pub verdict_of : Checked → Verdict
-verdict_of (Refused x) = refused (refusal_of x)
-verdict_of (Fits s) = fits s.lifts s.rounds
+abbrev pub verdict_of : Result Sheet Refusal → Verdict
+verdict_of (Err x) = refused (refusal_of x)
+verdict_of (Ok s) = fits s.lifts s.rounds

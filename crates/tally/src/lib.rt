@@ -1,15 +1,7 @@
-// The rounds of a sheet ("Refused because of the sheet" of document 01): the types of their tables, and of the verdict on a sheet.
+// The rounds of a sheet ("Refused because of the sheet" of document 01): the types of their tables.
 #![tactic(auto)]
 
-use reply::Refusal;
 use sheet::Sheet;
-
-// The answer to a sheet.
-#[derive(Clone, Copy)]
-pub enum Checked {
-    Refused(Refusal),
-    Fits(Sheet),
-}
 
 // What a round must have: exactly one held lift, a sum that is not too large, some measure, at most two donors.
 #[derive(Clone, Copy)]
@@ -32,16 +24,9 @@ pub struct Tallies {
     pub donors: [u64; 2 * Sheet::TABLE],
 }
 
-// The answer to a sheet, and its tables.
+// A sheet to which none of the refusals up to 9 applies, and its tables.
 #[derive(Clone, Copy)]
 pub struct Examined {
-    pub checked: Checked,
+    pub sheet: Sheet,
     pub tallies: Tallies,
-}
-
-// What a search finds: a number, or nothing.
-#[derive(Drop)]
-pub enum Found {
-    At(usize),
-    Nothing,
 }

@@ -6,34 +6,34 @@ use Rattle.tally.specs.declared.Rule.TheVariants.{OneHeld, SmallSum, SomeMeasure
 use Rattle.tally.proofs.Verdicts.{found, in_use_lem, at_not_one_held, at_old, at_new, at_zero_sum, at_last}
 use Rattle.survey.proofs.check_rounds.Goals as goal
 
-pub returns-in-At : goal.returns-in-At
-returns-in-At c =
+pub returns-in-Some : goal.returns-in-Some
+returns-in-Some c =
     let t = c.requires.tabled in
-    at_not_one_held (lifts c.args.sheet.now) (sym c.in-At.is ∙ found OneHeld _ _ t.old_lifts t.held c.first_breaking.ensures)
+    at_not_one_held (lifts c.args.sheet.now) (sym c.in-Some.is ∙ found OneHeld _ _ t.old_lifts t.held c.first_breaking.ensures)
 
-pub returns-in-At-first_breaking : goal.returns-in-At-first_breaking
-returns-in-At-first_breaking c =
+pub returns-in-Some-first_breaking : goal.returns-in-Some-first_breaking
+returns-in-Some-first_breaking c =
     let t = c.requires.tabled in
     at_old (lifts c.args.sheet.now)
     (sym c.in_default.is ∙ found OneHeld _ _ t.old_lifts t.held c.first_breaking.ensures)
-    (sym c.in-At-first_breaking.is ∙ found SmallSum _ _ t.old_lifts t.old_sums c.first_breaking-2.ensures)
+    (sym c.in-Some-first_breaking.is ∙ found SmallSum _ _ t.old_lifts t.old_sums c.first_breaking-2.ensures)
 
-pub returns-in-At-first_breaking-2 : goal.returns-in-At-first_breaking-2
-returns-in-At-first_breaking-2 c =
+pub returns-in-Some-first_breaking-2 : goal.returns-in-Some-first_breaking-2
+returns-in-Some-first_breaking-2 c =
     let t = c.requires.tabled in
     at_new (lifts c.args.sheet.now)
     (sym c.in_default.is ∙ found OneHeld _ _ t.old_lifts t.held c.first_breaking.ensures)
     (sym c.in_default-first_breaking.is ∙ found SmallSum _ _ t.old_lifts t.old_sums c.first_breaking-2.ensures)
-    (sym c.in-At-first_breaking-2.is ∙ found SmallSum _ _ t.new_lifts t.new_sums c.first_breaking-3.ensures)
+    (sym c.in-Some-first_breaking-2.is ∙ found SmallSum _ _ t.new_lifts t.new_sums c.first_breaking-3.ensures)
 
-pub returns-in-At-first_breaking-3 : goal.returns-in-At-first_breaking-3
-returns-in-At-first_breaking-3 c =
+pub returns-in-Some-first_breaking-3 : goal.returns-in-Some-first_breaking-3
+returns-in-Some-first_breaking-3 c =
     let t = c.requires.tabled in
     at_zero_sum (lifts c.args.sheet.now)
     (sym c.in_default.is ∙ found OneHeld _ _ t.old_lifts t.held c.first_breaking.ensures)
     (sym c.in_default-first_breaking.is ∙ found SmallSum _ _ t.old_lifts t.old_sums c.first_breaking-2.ensures)
     (sym c.in_default-first_breaking-2.is ∙ found SmallSum _ _ t.new_lifts t.new_sums c.first_breaking-3.ensures)
-    (sym c.in-At-first_breaking-3.is ∙ found SomeMeasure _ _ t.new_lifts t.new_sums c.first_breaking-4.ensures)
+    (sym c.in-Some-first_breaking-3.is ∙ found SomeMeasure _ _ t.new_lifts t.new_sums c.first_breaking-4.ensures)
 
 pub size-requires : goal.size-requires
 size-requires c = c.requires.legible

@@ -1,0 +1,3 @@
+-- What the proofs of `entry_at` and `marks` share.
+mod Words
+mod Steps

@@ -1,2 +1,0 @@
--- What the proofs of `entry_at` and `marks` share.
-mod Lifts

@@ -1,0 +1,104 @@
+// The lifts of a legible sheet, read from their words.
+ghost use Rattle.std.specs.Prelude.{◌≡◌, ◌+◌, ◌<◌, length, drop};
+ghost use Rattle.probability.specs.Sum.{indicator};
+ghost use Rattle.sheet.specs.Sheet.{lift_of, lifts};
+ghost use Rattle.sheet.specs.Reading.{Legible};
+ghost use Rattle.sheet.specs.Lift.{filled_in as filled_in_of, MarkSound, entry_of};
+
+use sheet::{Entry, Sheet};
+use std::marker::Model;
+
+// The new measure that counts, from both measures as written.
+fn filled_in(old: u64, new: u64) -> u64
+    ensures { result ≡ filled_in_of old new }
+{
+    if new == Sheet::NOT_COUNTED {
+        return old;
+    }
+    new
+}
+
+// The lift at position i.
+pub fn entry_at(sheet: &[u32], i: usize) -> Entry
+    requires i_in_bounds { i + 3 < length sheet.now }
+    requires mark_sound { MarkSound (drop i sheet.now) }
+    ensures { result ≡ entry_of (lift_of (drop i sheet.now)) }
+{
+    let old = sheet[i + 1];
+    let new = sheet[i + 2];
+    let measure = Sheet::measure(old);
+    Entry {
+        number: Sheet::payload(sheet[i]),
+        from: Sheet::round(old),
+        old: measure,
+        to: Sheet::round(new),
+        new: filled_in(measure, Sheet::measure(new)),
+        held: sheet[i + 3] == Sheet::HELD_WORD,
+    }
+}
+
+// How many held words the lift at position i has.
+pub fn marks(sheet: &[u32], i: usize) -> usize
+    requires { i + 3 < length sheet.now }
+    ensures { result ≡ indicator (lift_of (drop i sheet.now)).held }
+{
+    if Sheet::kind(sheet[i + 3]) == Sheet::HELD {
+        return 1;
+    }
+    0
+}
+
+// How many lifts there are, by the end word.
+pub fn size(sheet: &[u32]) -> usize
+    requires { Legible sheet.now }
+    ensures { result ≡ length (lifts sheet.now) }
+{
+    Sheet::payload(sheet[sheet.len() - 1]) as usize
+}
+
+// A walk over the lifts of a legible sheet, seen as the list of those that are left.
+#[derive(Drop)]
+pub struct Walk<'a> {
+    words: &'a [u32],
+}
+
+impl<'a> Model for Walk<'a> {
+    ghost use Rattle.std.specs.Prelude.{List};
+    ghost use Rattle.sheet.specs.Sheet.{Lift, lifts as lifts_of};
+    ghost use Rattle.sheet.specs.Law.{LiftsLeft};
+
+    ghost Value = { List Lift };
+
+    ghost view = { λ s. lifts_of s.words.now };
+
+    ghost invariant = { λ s. LiftsLeft s.words.now };
+}
+
+impl<'a> Iterator for Walk<'a> {
+    type Item = Entry;
+
+    ghost use Rattle.std.specs.Iterator.{item_count};
+    ghost use Rattle.scan.specs.Lifts.{GivesLift};
+
+    ghost next_gives = { GivesLift };
+
+    ghost remaining = { item_count (λ left. left) };
+
+    fn next(&mut self) -> Option<Entry> {
+        let words = self.words;
+        if words.len() == 1 {
+            return None;
+        }
+        let lift = entry_at(words, 0);
+        self.words = &words[3 + usize::from(lift.held)..];
+        Some(lift)
+    }
+}
+
+// The lifts of a legible sheet.
+pub fn lifts<'a>(sheet: &'a [u32]) -> Walk<'a>
+    requires { Legible sheet.now }
+    ensures { result ≡ lifts sheet.now }
+{
+    Walk { words: sheet }
+}
