@@ -1,7 +1,7 @@
 // The program of document 01: it reads sheet.bin and words.bin in the current folder and prints the text of their bytes.
 #![tactic(auto)]
 
-ghost use Rattle.std.specs.Prelude.{◌+◌, ◌^◌, ◌≤◌, ◌<◌, ◌≡◌, length, take, IfOk};
+ghost use Rattle.std.specs.Prelude.{◌^◌, ◌≤◌, ◌≡◌, length, take, IfOk};
 ghost use Rattle.std.specs.Io.{ReadsAtMost};
 ghost use Rattle.choose.specs.Printing.{Printed};
 
@@ -17,14 +17,14 @@ const SHEET_BYTES: usize = 4 * Sheet::LONGEST;
 // How many bytes of the random words do.
 const WORDS_BYTES: usize = report::WORDS_BYTES;
 
-// Where counting stops, since one piece more might not fit; no file is that long.
+// Where counting stops at the latest, since one piece more might not fit; no file is that long.
 const MOST_COUNTED: usize = usize::MAX - 65536;
 
 // How often a read is tried again when signals interrupt it.
 const MOST_TRIES: usize = 1000;
 
 fn main(rt: HostRuntime) {
-    let sheet = Contents::<SHEET_BYTES>::read(&rt, "sheet.bin", MOST_COUNTED);
+    let sheet = Contents::<SHEET_BYTES>::read(&rt, "sheet.bin", usize::MAX);
     let words = Contents::<WORDS_BYTES>::read(&rt, "words.bin", WORDS_BYTES);
     print_report(&rt, &sheet, &words);
 }
@@ -40,9 +40,7 @@ struct Contents<const N: usize> {
 
 impl<const N: usize> Contents<N> {
     // Reads a file until it ends or `most` bytes are counted; one that cannot be read counts as empty.
-    fn read(rt: &impl Files, path: &str, most: usize) -> Contents<N>
-        requires { most + 2 ^ 16 < 2 ^ 64 }
-    {
+    fn read(rt: &impl Files, path: &str, most: usize) -> Contents<N> {
         let mut bytes = [0u8; N];
         let size = read_file(rt, path, &mut bytes, most).unwrap_or(0);
         Contents { bytes, size }
@@ -58,19 +56,15 @@ impl<const N: usize> Contents<N> {
 }
 
 // Reads a file into `bytes`, as many as fit, until it ends or `most` are counted.
-fn read_file(rt: &impl Files, path: &str, bytes: &mut [u8], most: usize) -> io::Result<usize>
-    requires { most + 2 ^ 16 < 2 ^ 64 }
-{
+fn read_file(rt: &impl Files, path: &str, bytes: &mut [u8], most: usize) -> io::Result<usize> {
     let mut file = File::open(rt, path)?;
     read_all(&mut file, bytes, most)
 }
 
 // Reads into `bytes`, as many as fit, and counts on until nothing is left or `most` are counted.
-fn read_all(file: &mut impl Read, bytes: &mut [u8], most: usize) -> io::Result<usize>
-    requires { most + 2 ^ 16 < 2 ^ 64 }
-{
+fn read_all(file: &mut impl Read, bytes: &mut [u8], most: usize) -> io::Result<usize> {
     let mut size = 0;
-    while size < most {
+    while size < most.min(MOST_COUNTED) {
         let n = if size < bytes.len() {
             read_some(file, &mut bytes[size..])?
         } else {
