@@ -12,7 +12,7 @@ ghost use Rattle.tally.specs.Tables.{bit_of, donor_counts, Tabled, found_first a
 ghost use Rattle.tally.specs.Law.{FitsWithTables, VerdictAndTables};
 
 use reply::Refusal;
-use sheet::{Judged, Sheet};
+use sheet::Sheet;
 use tally::{Examined, Rule, Tallies};
 
 // ---- the tables
@@ -172,14 +172,10 @@ fn check_rounds(sheet: &[u32], t: &Tallies) -> Result<Sheet, Refusal>
 pub fn examine(sheet: &[u32]) -> Result<Examined, Refusal>
     ensures { VerdictAndTables sheet.now result }
 {
-    match scan::read(sheet) {
-        Judged::Faulty(x) => Err(x),
-        Judged::Sound => {
-            let tallies = survey(sheet);
-            let sheet = check_rounds(sheet, &tallies)?;
-            Ok(Examined { sheet, tallies })
-        }
-    }
+    scan::read(sheet)?;
+    let tallies = survey(sheet);
+    let sheet = check_rounds(sheet, &tallies)?;
+    Ok(Examined { sheet, tallies })
 }
 
 // The answer with refusal 10 behind 9, for a sheet that fits up to 9.

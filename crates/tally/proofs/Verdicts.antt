@@ -3,7 +3,7 @@ use Prim.Native.Nat.{ℕ, ◌+◌, ◌*◌, ◌≤◌}
 use mathlib.Core.Path.{◌≡◌, refl, sym, ap, ap₂, subst, ◌∙◌}
 use mathlib.Core.Bool.{Bool}
 use mathlib.Core.List.{List, [], ◌∷◌, map}
-use Rattle.std.specs.Prelude.{Option, Some, None, Result, Ok, Err}
+use Rattle.std.specs.Prelude.{Option, Some, None, Ok}
 use native.Mathlib.Omega.{arith}
 use lib.Dec.{ltb}
 use lib.Count.{ones}
@@ -19,7 +19,6 @@ use Rattle.tally.specs.Law.{Nowhere, FitBy, Fit, FittingBy, DecidedTheorem, Fits
 use Rattle.sheet.specs.Lift.{Old, New}
 use Rattle.tally.specs.declared.Rule.{Rule}
 use Rattle.tally.specs.declared.Rule.TheVariants.{FewDonors}
-use Rattle.sheet.specs.declared.Sheet.{Sheet}
 use Rattle.reply.specs.declared.Refusal.{Refusal}
 use Rattle.reply.specs.declared.Refusal.TheVariants.{TooManyDonors}
 use Rattle.tally.specs.declared.Examined.{Examined}
