@@ -3,10 +3,9 @@ use Prim.Native.Nat.{ℕ, ◌<◌}
 use mathlib.Core.Path.{◌≡◌, refl, ap, fun_ext, ◌∙◌}
 use mathlib.Core.List.{List, [], ◌∷◌}
 use Rattle.probability.specs.Plan.{Plan, done, draw, bind, SamePlan}
+use Rattle.std.specs.Prelude.{Option, Some, None}
 use Rattle.draw.specs.Draw.{draw_at}
 use Rattle.draw.specs.Run.{Run, finished, short, extend_run, follow, run, preceded_by, continued, RunBindTheorem, SameRunTheorem}
-use Rattle.draw.specs.declared.Drawn.{Drawn}
-use Rattle.draw.specs.declared.Drawn.TheVariants.{Value, Short}
 use Rattle.draw.proofs.Runs.{value_below}
 
 -- ---- one plan after another
@@ -23,9 +22,9 @@ extend_continued : {A B : Type 0} (v : ℕ) (r : Run A) (k : A → ℕ → Run B
 extend_continued v (finished vs a next) k = preceded_more v vs (k a next)
 extend_continued v short k = refl
 
-follow_continued : {A B : Type 0} (d : Drawn) (g : ℕ → ℕ → Run A) (k : A → ℕ → Run B) → follow d (λ v n. continued (g v n) k) ≡ continued (follow d g) k
-follow_continued (Value v n) g k = extend_continued v (g v n) k
-follow_continued Short g k = refl
+follow_continued : {A B : Type 0} (d : Option (ℕ × ℕ)) (g : ℕ → ℕ → Run A) (k : A → ℕ → Run B) → follow d (λ v n. continued (g v n) k) ≡ continued (follow d g) k
+follow_continued (Some (v, n)) g k = extend_continued v (g v n) k
+follow_continued None g k = refl
 
 pub run_bind : {A B : Type 0} (m : ℕ) (ws : List ℕ) (at : ℕ) (p : Plan A) (k : A → Plan B) → run m ws at (bind p k) ≡ continued (run m ws at p) (λ a next. run m ws next (k a))
 unfolding run bind
@@ -46,9 +45,9 @@ same_run m ws at (done a) (draw c g) s = absurd s
 same_run m ws at (draw b f) (done a) s = absurd s
 same_run {A} m ws at (draw b f) (draw c g) s = rw (← s.0) (go (draw_at m ws at b) refl (λ v n l. same_run m ws n (f v) (g v) (s.1 v l)))
   where
-    go : (d : Drawn) → draw_at m ws at b ≡ d → ((v n : ℕ) → v < b → run m ws n (f v) ≡ run m ws n (g v)) → follow d (λ v n. run m ws n (f v)) ≡ follow d (λ v n. run m ws n (g v))
-    go (Value v n) e h = ap (extend_run v) (h v n (value_below m ws at b e))
-    go Short e h = refl
+    go : (d : Option (ℕ × ℕ)) → draw_at m ws at b ≡ d → ((v n : ℕ) → v < b → run m ws n (f v) ≡ run m ws n (g v)) → follow d (λ v n. run m ws n (f v)) ≡ follow d (λ v n. run m ws n (g v))
+    go (Some (v, n)) e h = ap (extend_run v) (h v n (value_below m ws at b e))
+    go None e h = refl
 
 pub same_run_theorem : SameRunTheorem
 same_run_theorem A = same_run

@@ -12,27 +12,26 @@ use lib.Dec.{ltb}
 use borrow.Author.Tests.{ltb-true}
 use Rattle.probability.specs.Sum.{over}
 use Rattle.probability.specs.Plan.{Plan, done, draw, Every, Path, extend_path as step, paths}
+use Rattle.std.specs.Prelude.{Option, Some, None}
 use Rattle.draw.specs.Draw.{K, draw_from, draw_at}
 use Rattle.draw.specs.Run.{Run, finished, short, extend_run, follow, run, FollowsAPath}
-use Rattle.draw.specs.declared.Drawn.{Drawn}
-use Rattle.draw.specs.declared.Drawn.TheVariants.{Value, Short}
 
 mod_below : (w k b : ℕ) → w < k * b → w % b < b
 mod_below w k zero h = absurd (omega (arith, mul-zero k))
 mod_below w k (suc b) h = mod-lt w (omega arith)
 
-from_below : (m b i : ℕ) (ws : List ℕ) (v next : ℕ) → draw_from m b i ws ≡ Value v next → v < b
+from_below : (m b i : ℕ) (ws : List ℕ) (v next : ℕ) → draw_from m b i ws ≡ Some (v, next) → v < b
 unfolding draw_from
 from_below m b i [] v next e = let z : ◌≡◌ {A = ℕ} 0 1 = cc in absurd (omega arith)
 from_below m b i (w ∷ ws) v next e = go (ltb w (K m b * b)) refl e (from_below m b (i + 1) ws v next)
   where
-    go : (t : Bool) → ltb w (K m b * b) ≡ t → cond t (Value (w % b) (i + 1)) (draw_from m b (i + 1) ws) ≡ Value v next
-        → (draw_from m b (i + 1) ws ≡ Value v next → v < b) → v < b
-    go true l q r = let x : w % b ≡ v = cc in rw x at (mod_below w (K m b) b (ltb-true w _ l))
+    go : (t : Bool) → ltb w (K m b * b) ≡ t → cond t (Some (w % b, i + 1)) (draw_from m b (i + 1) ws) ≡ Some (v, next)
+        → (draw_from m b (i + 1) ws ≡ Some (v, next) → v < b) → v < b
+    go true l q r = let p : ◌≡◌ {A = ℕ × ℕ} (w % b, i + 1) (v, next) = cc in let x : w % b ≡ v = ap (λ (z : ℕ × ℕ). z.0) p in rw x at (mod_below w (K m b) b (ltb-true w _ l))
     go false l q r = r q
 
 -- a value that is drawn is below the bound
-pub value_below : (m : ℕ) (ws : List ℕ) (at b : ℕ) {v next : ℕ} → draw_at m ws at b ≡ Value v next → v < b
+pub value_below : (m : ℕ) (ws : List ℕ) (at b : ℕ) {v next : ℕ} → draw_at m ws at b ≡ Some (v, next) → v < b
 value_below m ws at b e = from_below m b at (drop at ws) _ _ e
 
 mem_map : {A B : Type 0} (f : A → B) {a : A} {xs : List A} → Memᴰ a xs → Memᴰ (f a) (map f xs)
@@ -68,11 +67,11 @@ followed {A} m (draw b k) ws vs at next x e = go (draw_at m ws at b) refl e (λ 
         (b * o, Memᴰ.cast (cc) (mem_over b (λ v. map (step b v) (paths (k v))) v l (mem_map (step b v) d)))
     reached v short l q h = let z : ◌≡◌ {A = ℕ} 0 1 = cc in absurd (omega arith)
 
-    go : (d : Drawn) → draw_at m ws at b ≡ d → follow d (λ v n. run m ws n (k v)) ≡ finished vs x next
+    go : (d : Option (ℕ × ℕ)) → draw_at m ws at b ≡ d → follow d (λ v n. run m ws n (k v)) ≡ finished vs x next
         → ((v n : ℕ) (us : List ℕ) → run m ws n (k v) ≡ finished us x next → (o : ℕ) × Memᴰ {A = Path A} (record { values = us; bounds = o; result = x }) (paths (k v)))
         → (o : ℕ) × Memᴰ {A = Path A} (record { values = vs; bounds = o; result = x }) (over ◌++◌ [] b (λ v. map (step b v) (paths (k v))))
-    go (Value v n) l q h = reached v (run m ws n (k v)) (value_below m ws at b l) q (h v n)
-    go Short l q h = let z : ◌≡◌ {A = ℕ} 0 1 = cc in absurd (omega arith)
+    go (Some (v, n)) l q h = reached v (run m ws n (k v)) (value_below m ws at b l) q (h v n)
+    go None l q h = let z : ◌≡◌ {A = ℕ} 0 1 = cc in absurd (omega arith)
 
 -- what every result of a plan has, its run's result has
 pub run_every : {A : Type 0} (P : A → Type 0) (m : ℕ) (p : Plan A) → Every P p → (ws : List ℕ) (at : ℕ) {vs : List ℕ} {next : ℕ} {a : A} → run m ws at p ≡ finished vs a next → P a
@@ -84,10 +83,10 @@ run_every {A} P m (draw b k) d ws at {vs} {next} {a} e = go (draw_at m ws at b) 
     reached v (finished us y n) q h = h us (cc)
     reached v short q h = let z : ◌≡◌ {A = ℕ} 0 1 = cc in absurd (omega arith)
 
-    go : (x : Drawn) → draw_at m ws at b ≡ x → follow x (λ v n. run m ws n (k v)) ≡ finished vs a next
+    go : (x : Option (ℕ × ℕ)) → draw_at m ws at b ≡ x → follow x (λ v n. run m ws n (k v)) ≡ finished vs a next
         → ((v : ℕ) → v < b → (n : ℕ) (us : List ℕ) → run m ws n (k v) ≡ finished us a next → P a) → P a
-    go (Value v n) l q h = reached v (run m ws n (k v)) q (h v (value_below m ws at b l) n)
-    go Short l q h = let z : ◌≡◌ {A = ℕ} 0 1 = cc in absurd (omega arith)
+    go (Some (v, n)) l q h = reached v (run m ws n (k v)) q (h v (value_below m ws at b l) n)
+    go None l q h = let z : ◌≡◌ {A = ℕ} 0 1 = cc in absurd (omega arith)
 
 -- ---- a path's values fix its result
 
@@ -121,10 +120,10 @@ fixed {A} m (draw b k) ws at next a q d e =
     last v r u (finished us y n) f g = (cc, cc)
     last v r u short f g = let z : ◌≡◌ {A = ℕ} 0 1 = cc in absurd (omega arith)
 
-    go : (v : ℕ) (r : Path A) → Memᴰ r (paths (k v)) → q.values ≡ v ∷ r.values → (x : Drawn) → follow x (λ u n. run m ws n (k u)) ≡ finished q.values a next
+    go : (v : ℕ) (r : Path A) → Memᴰ r (paths (k v)) → q.values ≡ v ∷ r.values → (x : Option (ℕ × ℕ)) → follow x (λ u n. run m ws n (k u)) ≡ finished q.values a next
         → ((n : ℕ) → run m ws n (k v) ≡ finished r.values a next → r.result ≡ a) → r.result ≡ a
-    go v r c f (Value u n) g h = let (i, j) = last v r u (run m ws n (k u)) f g in h n (rw i at j)
-    go v r c f Short g h = let z : ◌≡◌ {A = ℕ} 0 1 = cc in absurd (omega arith)
+    go v r c f (Some (u, n)) g h = let (i, j) = last v r u (run m ws n (k u)) f g in h n (rw i at j)
+    go v r c f None g h = let z : ◌≡◌ {A = ℕ} 0 1 = cc in absurd (omega arith)
 
 pub follows : {A : Type 0} (m : ℕ) (p : Plan A) → FollowsAPath m p
 follows m p = record { path = followed m p; result = fixed m p }

@@ -1,10 +1,8 @@
 -- Running a plan on random words.
-use Rattle.std.specs.Prelude.{ℕ, ◌≡◌}
+use Rattle.std.specs.Prelude.{ℕ, ◌≡◌, Option, Some, None}
 use mathlib.Core.List.{List, [], ◌∷◌, ◌++◌, Memᴰ}
 use Rattle.probability.specs.Plan.{Plan, done, draw, bind, SamePlan, Path, paths}
 use Rattle.draw.specs.Draw.{draw_at}
-use Rattle.draw.specs.declared.Drawn.{Drawn}
-use Rattle.draw.specs.declared.Drawn.TheVariants.{Value, Short}
 
 -- the values drawn, the result and the next position; or the words ended before a draw was finished
 pub data Run (A : Type 0) : Type 0 where
@@ -17,9 +15,9 @@ extend_run v (finished vs a next) = finished (v ∷ vs) a next
 extend_run v short = short
 
 -- after a draw, the run continues with its value, from the position behind it
-abbrev pub follow : {A : Type 0} → Drawn → (ℕ → ℕ → Run A) → Run A
-follow (Value v next) k = extend_run v (k v next)
-follow Short k = short
+abbrev pub follow : {A : Type 0} → Option (ℕ × ℕ) → (ℕ → ℕ → Run A) → Run A
+follow (Some (v, next)) k = extend_run v (k v next)
+follow None k = short
 
 -- the run of a plan on the words ws from a position on, m being the largest word
 unfoldable pub run : {A : Type 0} → ℕ → List ℕ → ℕ → Plan A → Run A

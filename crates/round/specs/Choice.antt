@@ -1,5 +1,5 @@
 -- "One round" of document 01: the choice, as one tree of draws, by any update of the preliminary lift.
-use Rattle.std.specs.Prelude.{ℕ, ◌*◌, Bool, true, false, cond, ◌||◌, List, [], ◌∷◌, map, leb, ltb, eqb, get_or}
+use Rattle.std.specs.Prelude.{ℕ, ◌*◌, Bool, true, false, cond, ◌||◌, List, [], ◌∷◌, map, leb, ltb, eqb, get_or, Option, Some, None as Nothing}
 use Rattle.probability.specs.Interval.{pick}
 use Rattle.probability.specs.Initial.{Initial, here, elsewhere}
 use Rattle.probability.specs.Plan.{Plan, done, draw}
@@ -10,14 +10,9 @@ use Rattle.round.specs.Round.{S, U, D, Weight, weights, weight_at, growth, G}
 use Rattle.round.specs.declared.Donors.{Donors}
 use Rattle.round.specs.declared.Donors.TheVariants.{None, One, Two}
 use Rattle.round.specs.declared.Lift.{Lift}
-use Rattle.round.specs.declared.Selected.{Selected}
-use Rattle.round.specs.declared.Selected.TheVariants.{At, Short}
+pub use Rattle.round.specs.declared.Selection.{Selection}
 
--- the place of the chosen lift, and whether a preliminary lift was dropped for it
-pub record Selection : Type 0 where
-  pub place : ℕ
-  pub dropped : Bool
-
+-- the choice of the lift at a place, and whether a preliminary lift was dropped for it
 abbrev pub selection : ℕ → Bool → Selection
 selection i d = record { place = i; dropped = d }
 
@@ -100,14 +95,14 @@ outcome held dropped = cond held 1 (cond dropped 2 3)
 
 -- ---- from random words
 
--- the answer to a run of the choice: the place, whether a preliminary lift was dropped, and the next position, or short
-abbrev pub answer : Run Selection → Selected
-answer (finished vs s next) = At s.place s.dropped next
-answer short = Short
+-- the answer to a run of the choice: the choice and the next position, or none where the words ended
+abbrev pub answer : Run Selection → Option (Selection × ℕ)
+answer (finished vs s next) = Some (s, next)
+answer short = Nothing
 
 -- the choice by an update from the random words ws, read from a position on
-abbrev pub selected_by : Update → Donors → List Lift → List Initial → List ℕ → ℕ → Selected
+abbrev pub selected_by : Update → Donors → List Lift → List Initial → List ℕ → ℕ → Option (Selection × ℕ)
 selected_by update ds ls xs ws at = answer (run largest ws at (plan_by update ds ls xs))
 
-abbrev pub selected : Donors → List Lift → List Initial → List ℕ → ℕ → Selected
+abbrev pub selected : Donors → List Lift → List Initial → List ℕ → ℕ → Option (Selection × ℕ)
 selected ds ls xs ws at = selected_by keyfitz ds ls xs ws at

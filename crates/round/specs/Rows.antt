@@ -1,13 +1,11 @@
 -- A round lent as rows, and what a caller shows of it.
-use Rattle.std.specs.Prelude.{ℕ, ◌^◌, ◌≤◌, ◌<◌, ◌≡◌, List, [], ◌∷◌, map, length, get_or}
+use Rattle.std.specs.Prelude.{ℕ, ◌^◌, ◌≤◌, ◌<◌, ◌≡◌, List, [], ◌∷◌, map, length, get_or, Option, Some, None}
 use Rattle.probability.specs.Pieces.{pieces}
 use Rattle.probability.specs.Initial.{Initial, here, elsewhere}
 use Rattle.round.specs.Round.{S, whole_sums, WellPosed}
 use Rattle.round.specs.declared.Donors.{Donors}
 use Rattle.round.specs.declared.Held.{Held}
 use Rattle.round.specs.declared.Lift.{Lift}
-use Rattle.round.specs.declared.Seat.{Seat}
-use Rattle.round.specs.declared.Seat.TheVariants.{Here, Elsewhere}
 
 -- the lift of an old measure, a donor and a new measure
 abbrev pub lift_of_measures : ℕ → ℕ → ℕ → Lift
@@ -39,10 +37,10 @@ pub record Bounded (ds : Donors) (ls : List Lift) : Type 0 where
   pub new : S ls ≤ capacity
   pub old : SumsBounded (whole_sums ds)
 
--- where a held lift is
-abbrev pub initial_of : Seat → Initial
-initial_of (Here i) = here i
-initial_of Elsewhere = elsewhere
+-- where a held lift is, by its place in the round, if it has one
+abbrev pub initial_of : Option ℕ → Initial
+initial_of (Some i) = here i
+initial_of None = elsewhere
 
 -- where the held lifts of donor 1 and donor 2 are
 abbrev pub initials : Held → List Initial

@@ -1,23 +1,19 @@
 -- The document's small rounds worked through, M1 to M11, as one table, and its figures; and the exact shares and keeping of small rounds: to
 -- be computed.
-use Rattle.std.specs.Prelude.{ℕ, ◌-◌, ◌^◌, Bool, ◌&&◌, List, [], ◌∷◌, map, eqb, get_or}
+use Rattle.std.specs.Prelude.{ℕ, ◌-◌, ◌^◌, Bool, ◌&&◌, List, [], ◌∷◌, map, eqb, get_or, Option, Some, None as Nothing}
 use Rattle.probability.specs.Fraction.{◌//◌}
 use Rattle.probability.specs.Table.{same, same_fraction}
 use Rattle.draw.specs.Draw.{largest, draw_at}
 use Rattle.draw.specs.Worked.{same_drawn}
-use Rattle.draw.specs.declared.Drawn.{Drawn}
-use Rattle.draw.specs.declared.Drawn.TheVariants.{Value, Short as Ended}
 use Rattle.round.specs.Round.{lift_at, S, D, weights, G}
 use Rattle.probability.specs.Initial.{Initial, here, elsewhere}
-use Rattle.round.specs.Choice.{keyfitz, is_held, outcome, selected}
+use Rattle.round.specs.Choice.{Selection, keyfitz, is_held, outcome, selected}
 use Rattle.round.specs.Share.{round_share}
 use Rattle.round.specs.Keep.{round_kept, tickets, kept_tickets}
 use Rattle.round.specs.Rows.{lift_of_measures}
 use Rattle.round.specs.declared.Donors.{Donors}
 use Rattle.round.specs.declared.Donors.TheVariants.{None, One, Two}
 use Rattle.round.specs.declared.Lift.{Lift}
-use Rattle.round.specs.declared.Selected.{Selected}
-use Rattle.round.specs.declared.Selected.TheVariants.{At, Short}
 
 -- the place of the chosen lift, the outcome, and the position behind the last word read
 abbrev chose : ℕ → ℕ → ℕ → List ℕ
@@ -26,16 +22,16 @@ chose i o n = i ∷ o ∷ n ∷ []
 abbrev out_of_words : List ℕ
 out_of_words = []
 
-abbrev numbers_of : List Initial → Selected → List ℕ
-numbers_of xs (At i d n) = chose i (outcome (is_held xs i) d) n
-numbers_of xs Short = out_of_words
+abbrev numbers_of : List Initial → Option (Selection × ℕ) → List ℕ
+numbers_of xs (Some (s, n)) = chose s.place (outcome (is_held xs s.place) s.dropped) n
+numbers_of xs Nothing = out_of_words
 
 -- a round, where its donors' held lifts are and random words, and the choice
 abbrev chosen : Donors → List Lift → List Initial → List ℕ → List ℕ → Bool
 chosen ds ls xs ws a = same (numbers_of xs (selected ds ls xs ws 0)) a
 
 -- a bound and random words, and what a draw finds
-abbrev drawn : ℕ → List ℕ → Drawn → Bool
+abbrev drawn : ℕ → List ℕ → Option (ℕ × ℕ) → Bool
 drawn b ws a = same_drawn (draw_at largest ws 0 b) a
 
 -- "Lifts 11, 12, 13, old 2, 3, 5, new 4, 1, 5"
@@ -77,8 +73,8 @@ cases =
     chosen (One 10) three (here 1 ∷ []) (9 ∷ []) (chose 1 1 1)
     ∷ chosen (One 10) three (here 1 ∷ []) (10 ∷ 0 ∷ []) (chose 0 2 2)
     ∷ chosen (One 10) three (here 2 ∷ []) [] (chose 2 1 0)
-    ∷ drawn 3 ((2 ^ 64 - 1) ∷ []) Ended
-    ∷ drawn 3 ((2 ^ 64 - 2) ∷ []) (Value 2 1)
+    ∷ drawn 3 ((2 ^ 64 - 1) ∷ []) Nothing
+    ∷ drawn 3 ((2 ^ 64 - 2) ∷ []) (Some (2, 1))
     ∷ chosen (Two 4 6) two (here 0 ∷ here 1 ∷ []) (11 ∷ []) (chose 0 1 1)
     ∷ chosen (Two 4 6) two (here 0 ∷ here 1 ∷ []) (12 ∷ 17 ∷ []) (chose 1 1 2)
     ∷ chosen (Two 4 6) two (here 0 ∷ here 1 ∷ []) (12 ∷ 18 ∷ 5 ∷ []) (chose 0 1 3)

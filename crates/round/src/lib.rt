@@ -10,26 +10,18 @@ pub enum Donors {
     Two(u64, u64),
 }
 
-// Where a donor's held lift is: at a place of the round, or elsewhere.
-#[derive(Clone, Copy)]
-pub enum Seat {
-    Here(usize),
-    Elsewhere,
-}
-
-// Where the held lifts of donor 1 and donor 2 are; elsewhere for a donor that there is not.
+// The places in the round of the held lifts of donor 1 and donor 2; none for a lift that is elsewhere, or a donor that there is not.
 #[derive(Clone, Copy)]
 pub struct Held {
-    pub first: Seat,
-    pub second: Seat,
+    pub first: Option<usize>,
+    pub second: Option<usize>,
 }
 
-// The place of the chosen lift in the round, whether a preliminary lift was dropped for it, and the position behind the last word read; or
-// the words ended.
-#[derive(Drop)]
-pub enum Selected {
-    At(usize, bool, usize),
-    Short,
+// The place of the chosen lift in the round, and whether a preliminary lift was dropped for it.
+#[derive(Clone, Copy)]
+pub struct Selection {
+    pub place: usize,
+    pub dropped: bool,
 }
 
 // A lift of the round: "m and b are a lift's old and new measures"; the donor that it comes from is 1 or 2, or 0 for none.
@@ -43,4 +35,20 @@ pub struct Lift {
 impl Lift {
     // How many numbers the row of a lift has: one that is the caller's, its donor, its old measure and its new one.
     pub const ROW: usize = 4;
+}
+
+impl From<[u32; Lift::ROW]> for Lift {
+    ghost use Rattle.std.specs.Prelude.{◌≡◌};
+    ghost use Rattle.round.specs.Rows.{row_lift};
+
+    ghost from_gives = { λ row l. l ≡ row_lift row };
+
+    fn from(row: [u32; Lift::ROW]) -> Lift {
+        let [_, donor, old, new] = row;
+        Lift {
+            old: u64::from(old),
+            donor,
+            new: u64::from(new),
+        }
+    }
 }

@@ -12,6 +12,7 @@ pub mod Weighing
 pub mod Replies
 pub mod Steps
 pub mod Choices
+pub mod Tables
 pub mod Following
 pub mod Chosen
 pub mod Fair

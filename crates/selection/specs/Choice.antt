@@ -1,6 +1,6 @@
 -- The whole choice, by any way of choosing in a round; the fourth procedure is "One round" of document 01 for each new round, "in rising
 -- order, each reading on where the one before stopped".
-use Rattle.std.specs.Prelude.{ℕ, ◌+◌, ◌*◌, ◌-◌, ◌^◌, cond, false, List, [], ◌∷◌, ◌++◌, map, Option, Some, ltb, length, get_or, set, drop}
+use Rattle.std.specs.Prelude.{ℕ, ◌+◌, ◌*◌, ◌-◌, ◌^◌, cond, false, List, [], ◌∷◌, ◌++◌, map, Option, None, Some, ltb, length, get_or, set, drop, replicate}
 use Rattle.probability.specs.Plan.{Plan}
 use Rattle.draw.specs.Draw.{largest}
 use Rattle.draw.specs.Run.{Run, finished, short as ended, run}
@@ -8,9 +8,9 @@ use Rattle.round.specs.Rows.{lift_of_measures}
 use Rattle.round.specs.Choice.{Selection, Update, keyfitz, plan_by, outcome}
 use Rattle.probability.specs.Initial.{Initial}
 use Rattle.round.specs.declared.Donors.{Donors}
-use Rattle.round.specs.declared.Donors.TheVariants.{None, One, Two}
+use Rattle.round.specs.declared.Donors.TheVariants.{None as NoDonor, One, Two}
 use Rattle.round.specs.declared.Lift.{Lift as RoundLift}
-use Rattle.sheet.specs.Sheet.{Lift, lifts, word}
+use Rattle.sheet.specs.Sheet.{most_rounds, Lift, lifts, word}
 use Rattle.reply.specs.Reply.{numbered, replied, of_refusal, unless_refused}
 use Rattle.reply.specs.declared.Reply.{Reply}
 use Rattle.sheet.specs.Lift.{place_at, Old, New}
@@ -23,7 +23,7 @@ use Rattle.selection.specs.declared.Pick.{Pick}
 
 -- donors by their whole old sums, of which there are at most two
 abbrev pub with_sums : List ℕ → Donors
-with_sums [] = None
+with_sums [] = NoDonor
 with_sums (T ∷ []) = One T
 with_sums (T₁ ∷ T₂ ∷ Ts) = Two T₁ T₂
 
@@ -116,6 +116,10 @@ pick_of c = record { number = c.number; outcome = c.outcome }
 unfoldable pub by_round : List Choice → List (Option Pick) → List (Option Pick)
 by_round [] table = table
 by_round (c ∷ cs) table = by_round cs (set table c.round (Some (pick_of c)))
+
+-- a table without any
+abbrev pub none_chosen : List (Option Pick)
+none_chosen = replicate (most_rounds + 1) None
 
 -- ---- the reply and the output
 

@@ -1,9 +1,9 @@
 -- The weights of a round as the code computes them: measures times multipliers.
-use Rattle.std.specs.Prelude.{ℕ, ◌+◌, ◌-◌, ◌*◌, ◌^◌, ◌≤◌, ◌≡◌, cond, List, [], ◌∷◌, map, length, ltb, eqb}
+use Rattle.std.specs.Prelude.{ℕ, ◌*◌, ◌^◌, ◌≤◌, ◌≡◌, cond, List, [], ◌∷◌, map, length, eqb}
 use Rattle.probability.specs.Sum.{total}
 use Rattle.round.specs.Round.{S, U, D, old_weight, Weight, whole_sums}
 use Rattle.round.specs.Choice.{first_odds}
-use Rattle.round.specs.Rows.{lift_of_measures, capacity, SumsBounded}
+use Rattle.round.specs.Rows.{lift_of_measures, row_lifts, capacity, SumsBounded}
 use Rattle.round.specs.declared.Donors.{Donors}
 use Rattle.round.specs.declared.Donors.TheVariants.{None, One, Two}
 use Rattle.round.specs.declared.Lift.{Lift}
@@ -30,6 +30,10 @@ multiplier_of s d = cond (eqb d 1) s.first (cond (eqb d 2) s.second 0)
 abbrev pub scaled : Scale → Lift → Weight
 scaled s l = record { old = l.old * multiplier_of s l.donor; new = l.new * s.new }
 
+-- the weights of the lifts of rows, by the multipliers
+abbrev pub weights_by : Scale → List ℕ → List Weight
+weights_by s rows = map (scaled s) (row_lifts rows)
+
 -- the multipliers that give a round's weights: D, and the old weight of a lift of old measure 1 from donor 1, and from donor 2; and
 -- U2 × T1 with them
 abbrev pub scale_of : Donors → List Lift → Scale
@@ -53,11 +57,3 @@ pub record LiftWeightsFit (s : Scale) (l : Lift) : Type 0 where
 -- "Both weights sum to D × S": the old weights and the new ones have the same sum
 pub record Balanced (s : Scale) (ls : List Lift) : Type 0 where
   pub sums : total (map (λ l. (scaled s l).old) ls) ≡ total (map (λ l. (scaled s l).new) ls)
-
--- how many lifts are lent at a time: a round is searched in blocks of this length, the last one shorter
-abbrev pub block_length : ℕ
-block_length = 16
-
--- where the block that begins at place a ends, in a round of n lifts
-abbrev pub block_end : ℕ → ℕ → ℕ
-block_end a n = cond (ltb (n - a) block_length) n (a + block_length)

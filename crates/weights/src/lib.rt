@@ -2,10 +2,9 @@
 #![tactic(auto)]
 
 ghost use Rattle.std.specs.Prelude.{◌≡◌, List, map, ◌^◌, ◌≤◌, ◌<◌, length};
-ghost use Rattle.std.proofs.Math.Seq.{slice};
 ghost use Rattle.round.specs.Round.{lift_at, U, measure_from as sent_of, growth, G, WellPosed};
-ghost use Rattle.round.specs.Rows.{row_lifts, Bounded};
-ghost use Rattle.weights.specs.Scaling.{HasSums, ProductsFit, multiplier_of, scaled, scale_of, WeightsFit, LiftWeightsFit};
+ghost use Rattle.round.specs.Rows.{row_lift, row_lifts, Bounded};
+ghost use Rattle.weights.specs.Scaling.{HasSums, ProductsFit, multiplier_of, scaled, weights_by, scale_of, WeightsFit, LiftWeightsFit};
 
 use round::{Donors, Lift};
 
@@ -43,13 +42,11 @@ pub const WHOLLY: Scale = Scale {
 pub fn multiplier(s: Scale, donor: u32) -> u64
     ensures { result ≡ multiplier_of s donor }
 {
-    if donor == 1 {
-        return s.first;
+    match donor {
+        1 => s.first,
+        2 => s.second,
+        _ => 0,
     }
-    if donor == 2 {
-        return s.second;
-    }
-    0
 }
 
 // A lift's growth where above zero, else 0.
@@ -59,17 +56,21 @@ pub fn growth_of(s: Scale, l: Lift) -> u64
 {
     let before = l.old * multiplier(s, l.donor);
     let after = l.new * s.new;
-    if before < after {
-        return after - before;
-    }
-    0
+    after.saturating_sub(before)
+}
+
+// The rows of a round, one for each lift.
+fn rows_of(rows: &[u32]) -> &[[u32; Lift::ROW]]
+    ensures { map row_lift result.now ≡ row_lifts rows.now }
+{
+    rows.as_chunks::<{ Lift::ROW }>().0
 }
 
 // How many lifts the rows have.
 pub fn count(rows: &[u32]) -> usize
     ensures { result ≡ length (row_lifts rows.now) }
 {
-    rows.len() / Lift::ROW
+    rows_of(rows).len()
 }
 
 // The lift at a place of the round.
@@ -77,45 +78,25 @@ pub fn lift_at(rows: &[u32], i: usize) -> Lift
     requires { i < length (row_lifts rows.now) }
     ensures { result ≡ lift_at (row_lifts rows.now) i }
 {
-    let at = Lift::ROW * i;
-    Lift {
-        old: rows[at + 2] as u64,
-        donor: rows[at + 1],
-        new: rows[at + 3] as u64,
-    }
-}
-
-// The sum of the growths above zero of the lifts from place a up to place e.
-pub fn growth_sum_between(s: Scale, rows: &[u32], a: usize, e: usize) -> u64
-    requires weights_fit { WeightsFit s (row_lifts rows.now) }
-    requires e_in_bounds { e ≤ length (row_lifts rows.now) }
-    ensures { result ≡ G (map (scaled s) (slice a e (row_lifts rows.now))) }
-{
-    let mut sum: u64 = 0;
-    let mut i = a;
-    while i < e {
-        sum += growth_of(s, lift_at(rows, i));
-        i += 1;
-    }
-    sum
+    Lift::from(rows_of(rows)[i])
 }
 
 // The sum of all growths above zero.
 pub fn growth_sum(s: Scale, rows: &[u32]) -> u64
     requires { WeightsFit s (row_lifts rows.now) }
-    ensures { result ≡ G (map (scaled s) (row_lifts rows.now)) }
+    ensures { result ≡ G (weights_by s rows.now) }
 {
-    growth_sum_between(s, rows, 0, count(rows))
+    rows_of(rows)
+        .iter()
+        .map(|&row| growth_of(s, Lift::from(row)))
+        .sum()
 }
 
 // A lift's old measure where it comes from donor k, else 0.
 fn measure_from(l: Lift, k: u32) -> u64
     ensures { result ≡ sent_of k l }
 {
-    if l.donor == k {
-        return l.old;
-    }
-    0
+    if l.donor == k { l.old } else { 0 }
 }
 
 // U: the part of donor k's old sum that came here.
@@ -123,14 +104,10 @@ fn donated(rows: &[u32], k: u32) -> u64
     requires { U k (row_lifts rows.now) ≤ 2 ^ 61 }
     ensures { result ≡ U k (row_lifts rows.now) }
 {
-    let n = count(rows);
-    let mut sum: u64 = 0;
-    let mut i = 0;
-    while i < n {
-        sum += measure_from(lift_at(rows, i), k);
-        i += 1;
-    }
-    sum
+    rows_of(rows)
+        .iter()
+        .map(|&row| measure_from(Lift::from(row), k))
+        .sum()
 }
 
 // The sums that the choice of a round goes by.

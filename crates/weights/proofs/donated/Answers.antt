@@ -1,15 +1,17 @@
-use native.Mathlib.Nat.{le_of_eq}
-use Rattle.weights.proofs.Loops.{came_none, sum_turn, sum_fits, sum_end}
+-- `weights::donated` meets its contract: U is the sum over the rows. Assumes nothing.
+use native.Mathlib.Omega.{arith}
+use Prim.Native.Nat.{◌<◌, ◌^◌}
+use Rattle.std.proofs.Common.{rules}
+use Rattle.std.specs.List.{sum_by}
+use Rattle.round.specs.Round.{measure_from}
+use Rattle.round.specs.Rows.{row_lift}
+use Rattle.weights.proofs.Loops.{rows_U}
 use Rattle.weights.proofs.donated.Goals as goal
 
-pub loop-i-init : goal.loop-i-init
-loop-i-init c = search came_none
-
-pub overflow_add-sum : goal.overflow_add-sum
-overflow_add-sum c = search (sum_fits, le_of_eq)
-
-pub loop-i-preserved : goal.loop-i-preserved
-loop-i-preserved c = search (sum_turn, le_of_eq)
+pub sum-requires-clause-fits : goal.sum-requires-clause-fits
+sum-requires-clause-fits c =
+    let fits : sum_by (λ row. measure_from c.args.k (row_lift row)) c.rows_of.result.now < 2 ^ 64 = omega (arith, rows_U c.args.k _ c.rows_of.ensures, c.requires) in
+    search rules
 
 pub returns : goal.returns
-returns c = search sum_end
+returns c = rw (rows_U c.args.k _ c.rows_of.ensures) (search rules)

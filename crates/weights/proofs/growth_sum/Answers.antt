@@ -1,6 +1,24 @@
--- `weights::growth_sum` meets its contract: it sums all lifts. Assumes nothing.
-use Rattle.weights.proofs.Loops.{reach_all}
+-- `weights::growth_sum` meets its contract: G is the sum over the rows. Assumes nothing.
+use native.Mathlib.Omega.{arith}
+use Prim.Native.Nat.{◌<◌, ◌^◌}
+use Rattle.std.proofs.Common.{rules}
+use Rattle.std.proofs.iter.Serving.{serving}
+use Rattle.std.specs.List.{sum_by, All}
+use Rattle.round.specs.Round.{growth}
+use Rattle.round.specs.Rows.{row_lift}
+use Rattle.weights.specs.Scaling.{scaled, LiftWeightsFit}
+use Rattle.weights.proofs.Loops.{rows_G, G_room, rows_room}
 use Rattle.weights.proofs.growth_sum.Goals as goal
 
+pub sum-requires-clause-can : goal.sum-requires-clause-can
+sum-requires-clause-can c =
+    let room : All (λ row. LiftWeightsFit c.args.s (row_lift row)) c.rows_of.result.now = rows_room _ c.rows_of.ensures c.requires in
+    grind serving
+
+pub sum-requires-clause-fits : goal.sum-requires-clause-fits
+sum-requires-clause-fits c =
+    let fits : sum_by (λ row. growth (scaled c.args.s (row_lift row))) c.rows_of.result.now < 2 ^ 64 = omega (arith, rows_G c.args.s _ c.rows_of.ensures, G_room c.requires) in
+    search rules
+
 pub returns : goal.returns
-returns c = search reach_all
+returns c = rw (rows_G c.args.s _ c.rows_of.ensures) (search rules)

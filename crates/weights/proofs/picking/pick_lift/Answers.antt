@@ -1,32 +1,19 @@
-use Rattle.weights.proofs.Loops.{pick_none, pick_end, block_less, block_from, block_inside, block_short, block_turn, block_fits, block_here, block_room}
+use mathlib.Core.List.{[]}
+use native.Mathlib.Omega.{arith}
+use Rattle.weights.proofs.Loops.{row_growth, rows_growths, rows_room, seek_turn, seek_here, seek_end}
 use Rattle.weights.proofs.picking.pick_lift.Goals as goal
 
 pub loop-i-init : goal.loop-i-init
-loop-i-init c = search pick_none
+loop-i-init c = record { same = omega arith }
 
-pub growth_sum_between-w-requires : goal.growth_sum_between-w-requires
-growth_sum_between-w-requires c = search block_inside
-
-pub gathered-block-requires : goal.gathered-block-requires
-gathered-block-requires c = search (block_from, block_inside, block_short)
-
-pub overflow_sub-e : goal.overflow_sub-e
-overflow_sub-e c = search block_from
-
-pub pick_first-requires : goal.pick_first-requires
-pick_first-requires c = search (block_short, block_room)
-
-pub overflow_add-result : goal.overflow_add-result
-overflow_add-result c = search block_fits
+pub growth_of-w-requires : goal.growth_of-w-requires
+growth_of-w-requires c = rw c.from.ensures (rows_room _ c.rows_of-lifts.ensures c.requires c.loop-i.i [] c.loop-i-test.true)
 
 pub returns-then-left-w : goal.returns-then-left-w
-returns-then-left-w c = search block_here
-
-pub loop-i-smaller : goal.loop-i-smaller
-loop-i-smaller c = search block_less
+returns-then-left-w c = rw (rows_growths c.args.s _ c.rows_of-lifts.ensures) (seek_here (row_growth c.args.s) _ c.loop-i-test.true (rw c.from.ensures at c.growth_of-w.ensures) c.if-left-w.true c.loop-i.invariant)
 
 pub loop-i-preserved : goal.loop-i-preserved
-loop-i-preserved c = search block_turn
+loop-i-preserved c = seek_turn (row_growth c.args.s) _ c.loop-i-test.true (rw c.from.ensures at c.growth_of-w.ensures) c.if-left-w.false c.loop-i.invariant
 
 pub returns : goal.returns
-returns c = search pick_end
+returns c = rw (rows_growths c.args.s _ c.rows_of-lifts.ensures) (seek_end c.loop-i-test.false c.loop-i.auto.i-end c.loop-i.invariant)

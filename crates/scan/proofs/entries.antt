@@ -1,2 +1,3 @@
 -- What the proofs of `entry_at` and `marks` share.
-mod Lifts
+mod Words
+mod Steps

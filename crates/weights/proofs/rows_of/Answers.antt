@@ -1,0 +1,6 @@
+-- `weights::rows_of` meets its contract: the library's chunks are the definition's pieces. Assumes nothing.
+use Rattle.weights.proofs.Loops.{rows_chunked}
+use Rattle.weights.proofs.rows_of.Goals as goal
+
+pub returns : goal.returns
+returns c = rw c.as_chunks.ensures.front (rows_chunked _)
