@@ -1,13 +1,14 @@
 -- `intake::take` meets its contract: a refusal of the words of the sheet lent, or the lines. Assumes nothing.
-use Rattle.intake.proofs.Taking.{at_word, at_legible}
+use Rattle.std.proofs.lemmas.Result.{err_from_is_err_and}
+use Rattle.intake.proofs.Taking.{at_word}
 use Rattle.counts.proofs.Taken.{takes}
 use Rattle.intake.proofs.take.Goals as goal
 
-pub take_legible-requires : goal.take_legible-requires
-take_legible-requires c = at_legible c.args.sheet.now c.args.text.now c.read.ensures c.in-Sound.is
+pub returns-in_err-read : goal.returns-in_err-read
+returns-in_err-read c =
+    let p = err_from_is_err_and c.from_residual.result c.from_residual.ensures.1 in
+    let q = at_word c.args.sheet.now c.args.text.now _ c.in_err-read.ensures in
+    record { replied = rw (p.1, p.2) q.0; written = q.1; taken = takes _ _ }
 
-pub returns-in-Faulty : goal.returns-in-Faulty
-returns-in-Faulty c = let e = at_word c.args.sheet.now c.args.text.now c.read.ensures c.in-Faulty.is in record { replied = e.0; written = e.1; taken = takes _ _ }
-
-pub returns-in-Sound : goal.returns-in-Sound
-returns-in-Sound c = let e = c.take_legible.ensures in record { replied = e.replied; written = e.written; taken = takes _ _ }
+pub returns-clause-taken : goal.returns-clause-taken
+returns-clause-taken c = takes _ _

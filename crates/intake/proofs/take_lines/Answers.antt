@@ -1,19 +1,29 @@
 -- `intake::take_lines` meets its contract: one law for each way out. Assumes nothing.
-use mathlib.Core.Path.{sym, ap, subst, ◌∙◌}
-use lib.ListN.{length, replicate, length-map}
-use Rattle.sheet.specs.Sheet.{lifts}
-use Rattle.intake.specs.Positions.{LiftNumbers}
-use Rattle.intake.proofs.Taking.{numbers, at_line_lem, at_end, end_long, end_small}
+use Rattle.std.proofs.lemmas.Result.{err_from_is_err_and}
+use Rattle.intake.proofs.Taking.{rising, no_line, at_line_lem, taken_small, at_refused, at_fits}
 use Rattle.intake.proofs.take_lines.Goals as goal
 
 pub gather-requires : goal.gather-requires
-gather-requires c = record { lift_numbers = subst LiftNumbers (sym c.number_lifts.ensures) (numbers c.requires.legible); measures_value = c.requires.measures_value ∙ ap (λ n. replicate n 0) (sym (ap length c.number_lifts.ensures ∙ length-map (lifts c.args.sheet.now) (λ l. l.number))) }
+gather-requires c = record { rising = rising c.args.sheet.now c.args.text.now c.requires.legible c.number_lifts.ensures; empty = no_line c.args.sheet.now c.args.text.now c.requires.legible c.number_lifts.ensures }
 
-pub finish-requires : goal.finish-requires
-finish-requires c = record { legible = c.requires.legible; words_len = c.requires.words_len; measures_len = end_long c.args.sheet.now c.args.text.now _ c.gather.new.measures c.requires.legible c.number_lifts.ensures c.gather.ensures c.in-All.is; by_index = end_small c.args.sheet.now c.args.text.now _ c.gather.new.measures c.requires.legible c.number_lifts.ensures c.gather.ensures c.in-All.is }
+pub returns-in_err-many : goal.returns-in_err-many
+returns-in_err-many c =
+    let p = err_from_is_err_and c.from_residual.result c.from_residual.ensures.1 in
+    let q = at_line_lem c.args.sheet.now c.args.text.now c.requires.legible c.number_lifts.ensures _ c.in_err-many.ensures in
+    record { replied = rw (p.1, p.2) q.0; written = q.1 }
 
-pub returns-in-Faulty : goal.returns-in-Faulty
-returns-in-Faulty c = let p = at_line_lem c.args.sheet.now c.args.text.now _ c.gather.new.measures c.requires.legible c.number_lifts.ensures c.gather.ensures c.in-Faulty.is in record { replied = p.0; written = p.1 }
+pub put-requires-clause-small : goal.put-requires-clause-small
+put-requires-clause-small c = taken_small c.args.sheet.now c.args.text.now c.requires.legible c.number_lifts.ensures c.in_ok-many.ensures
 
-pub returns-in-All : goal.returns-in-All
-returns-in-All c = let p = at_end c.args.sheet.now c.args.text.now _ c.gather.new.measures c.requires.legible c.number_lifts.ensures c.gather.ensures c.in-All.is (c.finish.ensures.replied, c.finish.ensures.written) in record { replied = p.0; written = p.1 }
+pub returns-in_err-check : goal.returns-in_err-check
+returns-in_err-check c =
+    let p = err_from_is_err_and c.from_residual-in_err-check.result c.from_residual-in_err-check.ensures.1 in
+    let v = rw (c.put.ensures, c.copy_from_slice.ensures.after) at c.in_err-check.ensures in
+    let q = at_refused c.args.sheet.now c.args.text.now c.requires.legible c.number_lifts.ensures c.in_ok-many.ensures _ v in
+    record { replied = rw (p.1, p.2) q.0; written = q.1 }
+
+pub returns : goal.returns
+returns c =
+    let v = rw (c.put.ensures, c.copy_from_slice.ensures.after) at c.in_ok-check.ensures in
+    let q = at_fits c.args.sheet.now c.args.text.now c.requires.legible c.number_lifts.ensures c.in_ok-many.ensures v in
+    record { replied = q.0; written = rw (c.copy_from_slice-2.ensures.after, c.put.ensures, c.copy_from_slice.ensures.after) q.1 }
