@@ -57,45 +57,6 @@ fn put(sheet: &mut [u32], slots: &[Slot])
     }
 }
 
-// The counts of a text taken into a legible sheet, with room for its lifts' slots and its words.
-fn take_lines(
-    sheet: &mut [u32],
-    text: &[u8],
-    slots: &mut [Slot],
-    words: &mut [u32],
-) -> Result<Done, Refusal>
-    requires legible { Legible sheet.old }
-    requires slots_len { length slots.old ≡ length (lifts sheet.old) }
-    requires words_len { length words.old ≡ length sheet.old }
-    ensures replied { reply_of result ≡ counts_reply sheet.old text.now }
-    ensures written { sheet.new ≡ counts_output sheet.old text.now }
-{
-    number_lifts(sheet, slots);
-    let many = lines::gather(text, slots)?;
-    words.copy_from_slice(sheet);
-    put(words, slots);
-    survey::check(words)?;
-    sheet.copy_from_slice(words);
-    Ok(Done { many, words: 0 })
-}
-
-// The counts of a text taken into a legible sheet.
-fn take_legible(sheet: &mut [u32], text: &[u8]) -> Result<Done, Refusal>
-    requires { Legible sheet.old }
-    ensures replied { reply_of result ≡ counts_reply sheet.old text.now }
-    ensures written { sheet.new ≡ counts_output sheet.old text.now }
-{
-    let n = scan::size(sheet);
-    let long = sheet.len();
-    let empty = Slot {
-        number: 0,
-        measure: None,
-    };
-    let mut slots = [empty; Sheet::MOST_LIFTS];
-    let mut words = [0; Sheet::LONGEST];
-    take_lines(sheet, text, &mut slots[..n], &mut words[..long])
-}
-
 // The counts of a text taken into a sheet: the reply, and the sheet at the end; a refusal writes nothing.
 pub fn take(sheet: &mut [u32], text: &[u8]) -> Result<Done, Refusal>
     ensures replied { reply_of result ≡ counts_reply sheet.old text.now }
@@ -103,5 +64,19 @@ pub fn take(sheet: &mut [u32], text: &[u8]) -> Result<Done, Refusal>
     ensures taken { Takes sheet.old text.now }
 {
     scan::read(sheet)?;
-    take_legible(sheet, text)
+    let empty = Slot {
+        number: 0,
+        measure: None,
+    };
+    let mut slots = [empty; Sheet::MOST_LIFTS];
+    let slots = &mut slots[..scan::size(sheet)];
+    let mut words = [0; Sheet::LONGEST];
+    let words = &mut words[..sheet.len()];
+    number_lifts(sheet, slots);
+    let many = lines::gather(text, slots)?;
+    words.copy_from_slice(sheet);
+    put(words, slots);
+    survey::check(words)?;
+    sheet.copy_from_slice(words);
+    Ok(Done { many, words: 0 })
 }
