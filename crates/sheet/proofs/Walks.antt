@@ -1,4 +1,4 @@
--- Walks over the lifts of a legible sheet, position by position: what is left of the words is the words of the lifts left.
+-- Walks over the lifts of a legible sheet: what is left of the words is the words of the lifts left.
 use Prim.Native.Nat.{ℕ, ◌+◌, ◌-◌, ◌^◌, ◌≤◌, ◌<◌}
 use mathlib.Core.Path.{◌≡◌, refl, sym, ap, subst, ◌∙◌}
 use mathlib.Core.Bool.{Bool, true, false, cond}
@@ -9,53 +9,39 @@ use lib.ListN.{length, get_or, drop, length-append, length-drop}
 use lib.Seq.{drop-drop, get_or-append-add}
 use Rattle.probability.specs.Sum.{indicator}
 use Rattle.probability.proofs.Sums.{indicator_le}
-use Rattle.sheet.specs.Sheet.{most_rounds, kind, payload, lift_kind, old_kind, new_kind, held_kind, end_kind, Lift, lift_of, lifts, word, place_word, lift_words, words_then}
+use Rattle.sheet.specs.Sheet.{most_lifts, most_rounds, kind, payload, lift_kind, old_kind, new_kind, held_kind, end_kind, Lift, lift_of, lifts, word, place_word, lift_words, words_then}
 use Rattle.sheet.specs.Reading.{Legible}
 use Rattle.sheet.specs.Lift.{MarkSound, entry_of}
 use Rattle.sheet.specs.declared.Entry.{Entry}
-use Rattle.sheet.specs.Law.{PlaceWellFormed, LiftWellFormed, AllWellFormed}
+use Rattle.sheet.specs.Law.{PlaceWellFormed, LiftWellFormed, AllWellFormed, LiftsLeft}
 use Rattle.sheet.proofs.Trips.{kind_word, payload_word, kind_place, placed_writable, read_theorem}
 
 -- the words of the end of a sheet of n lifts
 abbrev end : ℕ → List ℕ
 end n = word end_kind n ∷ []
 
--- position i stands between lifts
-pub record Between (ws : List ℕ) (i : ℕ) : Type 0 where
-  pub before : ℕ
-  pub listed : AllWellFormed before (lifts (drop i ws))
-  pub few : length (lifts ws) < 2 ^ 28
-  pub back : words_then (lifts (drop i ws)) (end (length (lifts ws))) ≡ drop i ws
-
-pub between_none : {ws : List ℕ} → Legible ws → Between ws 0
-between_none {ws} l =
+abbrev pub all_left : {ws : List ℕ} → Legible ws → LiftsLeft ws
+all_left {ws} l =
     let r = read_theorem ws l.read in
-    record { before = 0; listed = r.well_formed.listed; few = omega (arith, r.well_formed.few); back = r.back }
+    record { before = 0; listed = r.well_formed.listed; count = length (lifts ws); few = omega (arith, r.well_formed.few); back = r.back }
 
--- where the lift at position i ends
-abbrev pub behind : List ℕ → ℕ → ℕ
-behind ws i = i + (3 + indicator (lift_of (drop i ws)).held)
+-- a legible sheet has no more lifts than a sheet may have
+pub few_lifts : {ws : List ℕ} → Legible ws → length (lifts ws) ≤ most_lifts
+few_lifts {ws} l = (read_theorem ws l.read).well_formed.few
 
--- what holds at a lift
-pub record Turn (ws : List ℕ) (i : ℕ) : Type 0 where
-  pub room : i + 3 < length ws
-  pub marked : MarkSound (drop i ws)
-  pub old : PlaceWellFormed old_kind (lift_of (drop i ws)).old
-  pub new : PlaceWellFormed new_kind (lift_of (drop i ws)).new
-  pub here : lifts (drop i ws) ≡ lift_of (drop i ws) ∷ lifts (drop (behind ws i) ws)
-  pub next : Between ws (behind ws i)
+-- how many words the first lift has
+abbrev pub size : List ℕ → ℕ
+size ws = 3 + indicator (lift_of ws).held
 
--- a lift's rounds are indices of a table by round
-module _ {ws : List ℕ} {i : ℕ} {e : Entry} (t : Turn ws i) (q : e ≡ entry_of (lift_of (drop i ws))) where
-  pub entry_from : e.from < most_rounds + 1
-  entry_from = omega (arith, t.old.round, ap (λ x. x.from) q)
-
-  pub entry_to : e.to < most_rounds + 1
-  entry_to = omega (arith, t.new.round, ap (λ x. x.to) q)
-
--- a turn moves on, and not beyond the words
-pub moved : {ws : List ℕ} {i m : ℕ} → Turn ws i → m ≡ indicator (lift_of (drop i ws)).held → i + (3 + m) ≤ length ws
-moved {ws} {i} t e = omega (arith, t.room, indicator_le (lift_of (drop i ws)).held)
+-- what holds of words left that begin with a lift, before an end word of n lifts
+pub record First (n : ℕ) (ws : List ℕ) : Type 0 where
+  pub room : 3 < length ws
+  pub marked : MarkSound ws
+  pub old : PlaceWellFormed old_kind (lift_of ws).old
+  pub new : PlaceWellFormed new_kind (lift_of ws).new
+  pub here : lifts ws ≡ lift_of ws ∷ lifts (drop (size ws) ws)
+  pub next : LiftsLeft (drop (size ws) ws)
+  pub counted : next.count ≡ n
 
 -- a word of kind 1 is read as a lift, another is passed over
 lifts_lift : (w : ℕ) → kind w ≡ lift_kind → (ws : List ℕ) → lifts (w ∷ ws) ≡ lift_of (w ∷ ws) ∷ lifts ws
@@ -106,63 +92,116 @@ marked_words l ls n d h = go l.held ls d
     go false [] d k = absurd (omega (arith, k, kind_word end_kind n h))
     go false (m ∷ ms) d k = absurd (omega (arith, k, kind_word lift_kind m.number d.0.payload))
 
-module _ {ws : List ℕ} {i : ℕ} (b : Between ws i) where
+module _ {ws : List ℕ} (b : LiftsLeft ws) where
   -- the words left, where the lifts left are known
-  left : (ls : List Lift) → lifts (drop i ws) ≡ ls → drop i ws ≡ words_then ls (end (length (lifts ws)))
+  left : (ls : List Lift) → lifts ws ≡ ls → ws ≡ words_then ls (end b.count)
   left ls e = rw (← e) (sym b.back)
 
-  left_none : lifts (drop i ws) ≡ [] → length ws - i ≡ 1
+  left_none : lifts ws ≡ [] → length ws ≡ 1
   unfolding words_then
-  left_none e = sym (length-drop i ws) ∙ ap length (left [] e)
+  left_none e = ap length (left [] e)
 
-  left_some : (l : Lift) (ls : List Lift) → lifts (drop i ws) ≡ l ∷ ls → 3 < length ws - i
+  left_some : (l : Lift) (ls : List Lift) → lifts ws ≡ l ∷ ls → 3 < length ws
   unfolding words_then
-  left_some l ls e =
-      omega (arith, length-drop i ws, ap length (left (l ∷ ls) e), long l.held (words_then ls (end (length (lifts ws)))), written_long ls (length (lifts ws)))
+  left_some l ls e = omega (arith, ap length (left (l ∷ ls) e), long l.held (words_then ls (end b.count)), written_long ls b.count)
 
-  turn_of : (l : Lift) (ls : List Lift) → lifts (drop i ws) ≡ l ∷ ls → Turn ws i
+  first_of : (l : Lift) (ls : List Lift) → lifts ws ≡ l ∷ ls → First b.count ws
   unfolding words_then AllWellFormed
-  turn_of l ls e =
+  first_of l ls e =
       let p : LiftWellFormed b.before l = (rw e at b.listed).0 in
-      let rest : List ℕ = words_then ls (end (length (lifts ws))) in
-      let q : drop i ws ≡ lift_words l ++ rest = left (l ∷ ls) e in
-      let o : lifts (drop i ws) ≡ lift_of (drop i ws) ∷ lifts rest = rw q (lifts_one l p rest) in
-      let s : lift_of (drop i ws) ≡ l = cc in
+      let rest : List ℕ = words_then ls (end b.count) in
+      let q : ws ≡ lift_words l ++ rest = left (l ∷ ls) e in
+      let o : lifts ws ≡ lift_of ws ∷ lifts rest = rw q (lifts_one l p rest) in
+      let s : lift_of ws ≡ l = cc in
       let t : lifts rest ≡ ls = cc in
-      let d : drop (behind ws i) ws ≡ rest =
-      ap (λ t. drop (i + (3 + indicator t)) ws) (ap (λ x. x.held) s) ∙ rw (← drop-drop (3 + indicator l.held) i ws, q) (drop_one l rest) in
+      let d : drop (size ws) ws ≡ rest = ap (λ t. drop (3 + indicator t) ws) (ap (λ x. x.held) s) ∙ rw q (drop_one l rest) in
       record {
-        room = omega (arith, left_some l ls e);
-        marked = rw q (marked_words l ls (length (lifts ws)) (rw e at b.listed).1 b.few);
+        room = left_some l ls e;
+        marked = rw q (marked_words l ls b.count (rw e at b.listed).1 b.few);
         old = subst (PlaceWellFormed old_kind) (sym (ap (λ x. x.old) s)) p.old;
         new = subst (PlaceWellFormed new_kind) (sym (ap (λ x. x.new) s)) p.new;
         here = rw d o;
-        next = record { before = l.number; listed = rw (d, t) (rw e at b.listed).1; few = b.few; back = rw (d, t) refl };
+        next = record { before = l.number; listed = rw (d, t) (rw e at b.listed).1; count = b.count; few = b.few; back = rw (d, t) refl };
+        counted = refl;
       }
 
   -- where more than the end word is left there is a lift
-  pub turn : i + 1 < length ws → Turn ws i
-  turn h = go (lifts (drop i ws)) refl
+  pub first : (length ws ≡ 1 → ⊥) → First b.count ws
+  first h = go (lifts ws) refl
     where
-      go : (ls : List Lift) → lifts (drop i ws) ≡ ls → Turn ws i
-      go [] e = absurd (omega (arith, left_none e))
-      go (l ∷ ls) e = turn_of l ls e
+      go : (ls : List Lift) → lifts ws ≡ ls → First b.count ws
+      go [] e = absurd (h (left_none e))
+      go (l ∷ ls) e = first_of l ls e
 
   -- and where no more is left there is none
-  pub last : length ws ≤ i + 1 → lifts (drop i ws) ≡ []
-  last h = go (lifts (drop i ws)) refl
+  pub none_left : length ws ≤ 1 → lifts ws ≡ []
+  none_left h = go (lifts ws) refl
     where
-      go : (ls : List Lift) → lifts (drop i ws) ≡ ls → ls ≡ []
+      go : (ls : List Lift) → lifts ws ≡ ls → ls ≡ []
       go [] e = refl
       go (l ∷ ls) e = absurd (omega (arith, left_some l ls e))
 
-  -- the end word is never passed
-  pub inside : i < length ws
-  inside = go (lifts (drop i ws)) refl
+  -- the end word is always left
+  pub end_left : 0 < length ws
+  end_left = go (lifts ws) refl
     where
-      go : (ls : List Lift) → lifts (drop i ws) ≡ ls → i < length ws
+      go : (ls : List Lift) → lifts ws ≡ ls → 0 < length ws
       go [] e = omega (arith, left_none e)
       go (l ∷ ls) e = omega (arith, left_some l ls e)
+
+-- ---- by position
+
+-- position i stands between lifts
+pub record Between (ws : List ℕ) (i : ℕ) : Type 0 where
+  pub rest : LiftsLeft (drop i ws)
+  pub counted : rest.count ≡ length (lifts ws)
+
+pub between_none : {ws : List ℕ} → Legible ws → Between ws 0
+between_none l = record { rest = all_left l; counted = refl }
+
+-- where the lift at position i ends
+abbrev pub behind : List ℕ → ℕ → ℕ
+behind ws i = i + size (drop i ws)
+
+-- what holds at a lift
+pub record Turn (ws : List ℕ) (i : ℕ) : Type 0 where
+  pub room : i + 3 < length ws
+  pub marked : MarkSound (drop i ws)
+  pub old : PlaceWellFormed old_kind (lift_of (drop i ws)).old
+  pub new : PlaceWellFormed new_kind (lift_of (drop i ws)).new
+  pub here : lifts (drop i ws) ≡ lift_of (drop i ws) ∷ lifts (drop (behind ws i) ws)
+  pub next : Between ws (behind ws i)
+
+-- a lift's rounds are indices of a table by round
+module _ {ws : List ℕ} {i : ℕ} {e : Entry} (t : Turn ws i) (q : e ≡ entry_of (lift_of (drop i ws))) where
+  pub entry_from : e.from < most_rounds + 1
+  entry_from = omega (arith, t.old.round, ap (λ x. x.from) q)
+
+  pub entry_to : e.to < most_rounds + 1
+  entry_to = omega (arith, t.new.round, ap (λ x. x.to) q)
+
+-- a turn moves on, and not beyond the words
+pub moved : {ws : List ℕ} {i m : ℕ} → Turn ws i → m ≡ indicator (lift_of (drop i ws)).held → i + (3 + m) ≤ length ws
+moved {ws} {i} t e = omega (arith, t.room, indicator_le (lift_of (drop i ws)).held)
+
+module _ {ws : List ℕ} {i : ℕ} (b : Between ws i) where
+  -- what is left of the words is the words of the lifts left
+  pub words_left : words_then (lifts (drop i ws)) (end (length (lifts ws))) ≡ drop i ws
+  words_left = rw b.counted at b.rest.back
+
+  pub turn : i + 1 < length ws → Turn ws i
+  turn h =
+      let f = first b.rest (λ e. omega (arith, length-drop i ws)) in
+      let d : drop (size (drop i ws)) (drop i ws) ≡ drop (behind ws i) ws = drop-drop (size (drop i ws)) i ws in
+      let n = subst (λ us. (r : LiftsLeft us) × (r.count ≡ length (lifts ws))) d (f.next, f.counted ∙ b.counted) in
+      record { room = omega (arith, f.room, length-drop i ws); marked = f.marked; old = f.old; new = f.new; here = rw d at f.here; next = record { rest = n.0; counted = n.1 } }
+
+  pub last : length ws ≤ i + 1 → lifts (drop i ws) ≡ []
+  last h = none_left b.rest (omega (arith, length-drop i ws))
+
+  -- the end word is never passed
+  pub inside : i < length ws
+  inside = omega (arith, length-drop i ws, end_left b.rest)
 
 -- ---- the end word
 

@@ -1,6 +1,6 @@
 -- What is proved of words and lists of lifts: reading and writing are inverse.
 use Rattle.std.specs.Prelude.{ℕ, ◌^◌, ◌≤◌, ◌<◌, ◌≡◌, true, false, List, [], ◌∷◌, length}
-use Rattle.sheet.specs.Sheet.{most_lifts, most_rounds, not_counted, old_kind, new_kind, Place, Lift, lifts, sheet_of}
+use Rattle.sheet.specs.Sheet.{most_lifts, most_rounds, not_counted, old_kind, new_kind, end_kind, Place, Lift, lifts, word, words_then, sheet_of}
 use Rattle.sheet.specs.Reading.{too_large, reading, sound}
 
 -- a place that refusal 4 does not meet in a word of kind k
@@ -27,6 +27,14 @@ AllWellFormed n (l ∷ ls) = LiftWellFormed n l × AllWellFormed l.number ls
 pub record WellFormed (ls : List Lift) : Type 0 where
   pub listed : AllWellFormed 0 ls
   pub few : length ls ≤ most_lifts
+
+-- what is left of a legible sheet behind a lift: the words of well-formed lifts, then an end word
+pub record LiftsLeft (ws : List ℕ) : Type 0 where
+  pub before : ℕ
+  pub listed : AllWellFormed before (lifts ws)
+  pub count : ℕ
+  pub few : count < 2 ^ 28
+  pub back : words_then (lifts ws) (word end_kind count ∷ []) ≡ ws
 
 -- a sheet without a faulty word consists of the words of its own lifts
 pub record ReadBack (ws : List ℕ) : Type 0 where

@@ -6,6 +6,7 @@ ghost use Rattle.sheet.specs.Reading.{Legible};
 ghost use Rattle.sheet.specs.Lift.{filled_in as filled_in_of, MarkSound, entry_of};
 
 use sheet::{Entry, Sheet};
+use std::marker::Model;
 
 // The new measure that counts, from both measures as written.
 fn filled_in(old: u64, new: u64) -> u64
@@ -41,10 +42,7 @@ pub fn marks(sheet: &[u32], i: usize) -> usize
     requires { i + 3 < length sheet.now }
     ensures { result ≡ indicator (lift_of (drop i sheet.now)).held }
 {
-    if Sheet::kind(sheet[i + 3]) == Sheet::HELD {
-        return 1;
-    }
-    0
+    usize::from(Sheet::kind(sheet[i + 3]) == Sheet::HELD)
 }
 
 // How many lifts there are, by the end word.
@@ -53,4 +51,51 @@ pub fn size(sheet: &[u32]) -> usize
     ensures { result ≡ length (lifts sheet.now) }
 {
     Sheet::payload(sheet[sheet.len() - 1]) as usize
+}
+
+// A walk over the lifts of a legible sheet, seen as the list of those that are left.
+#[derive(Drop)]
+pub struct Walk<'a> {
+    words: &'a [u32],
+}
+
+impl<'a> Model for Walk<'a> {
+    ghost use Rattle.std.specs.Prelude.{List};
+    ghost use Rattle.sheet.specs.Sheet.{Lift, lifts as lifts_of};
+    ghost use Rattle.sheet.specs.Law.{LiftsLeft};
+
+    ghost Value = { List Lift };
+
+    ghost view = { λ s. lifts_of s.words.now };
+
+    ghost invariant = { λ s. LiftsLeft s.words.now };
+}
+
+impl<'a> Iterator for Walk<'a> {
+    type Item = Entry;
+
+    ghost use Rattle.std.specs.Iterator.{item_count};
+    ghost use Rattle.scan.specs.Lifts.{GivesLift};
+
+    ghost next_gives = { GivesLift };
+
+    ghost remaining = { item_count (λ left. left) };
+
+    fn next(&mut self) -> Option<Entry> {
+        let words = self.words;
+        if words.len() == 1 {
+            return None;
+        }
+        let lift = entry_at(words, 0);
+        self.words = &words[3 + usize::from(lift.held)..];
+        Some(lift)
+    }
+}
+
+// The lifts of a legible sheet.
+pub fn lifts<'a>(sheet: &'a [u32]) -> Walk<'a>
+    requires { Legible sheet.now }
+    ensures { result ≡ lifts sheet.now }
+{
+    Walk { words: sheet }
 }

@@ -1,2 +1,2 @@
 -- What the proofs of `entry_at` and `marks` share.
-mod Lifts
+mod Steps

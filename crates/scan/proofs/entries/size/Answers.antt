@@ -2,7 +2,7 @@
 use native.Mathlib.Omega.{arith}
 use mathlib.Core.Path.{◌∙◌}
 use Rattle.sheet.proofs.Walks.{between_none, inside, end_counts}
-use Rattle.scan.proofs.lifts.size.Goals as goal
+use Rattle.scan.proofs.entries.size.Goals as goal
 
 pub overflow_sub-sheet : goal.overflow_sub-sheet
 overflow_sub-sheet c = omega (arith, inside (between_none c.requires))
