@@ -42,10 +42,7 @@ pub fn marks(sheet: &[u32], i: usize) -> usize
     requires { i + 3 < length sheet.now }
     ensures { result ≡ indicator (lift_of (drop i sheet.now)).held }
 {
-    if Sheet::kind(sheet[i + 3]) == Sheet::HELD {
-        return 1;
-    }
-    0
+    usize::from(Sheet::kind(sheet[i + 3]) == Sheet::HELD)
 }
 
 // How many lifts there are, by the end word.
