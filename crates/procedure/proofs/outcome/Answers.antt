@@ -2,14 +2,14 @@
 use Rattle.round.specs.Choice.{outcome}
 use Rattle.procedure.proofs.outcome.Goals as goal
 
-pub returns-then-held : goal.returns-then-held
+pub returns-in-true-default : goal.returns-in-true-default
 unfolding outcome
-returns-then-held c = rw c.if-held.true
+returns-in-true-default c = rw c.in-true-default.is-0
 
-pub returns-then-dropped : goal.returns-then-dropped
+pub returns-in-false-true : goal.returns-in-false-true
 unfolding outcome
-returns-then-dropped c = rw (c.if-held.false, c.if-dropped.true)
+returns-in-false-true c = rw (c.in-false-true.is-0, c.in-false-true.is-1)
 
-pub returns : goal.returns
+pub returns-in-false-false : goal.returns-in-false-false
 unfolding outcome
-returns c = rw (c.if-held.false, c.if-dropped.false)
+returns-in-false-false c = rw (c.in-false-false.is-0, c.in-false-false.is-1)

@@ -1,4 +1,5 @@
 -- `procedure::update` meets its contract: one law for each way out; where the lift may be dropped, the growths have a sum above 0. Assumes nothing.
+use mathlib.Core.Path.{◌∙◌}
 use Rattle.round.specs.Rows.{row_lifts}
 use Rattle.weights.proofs.Loops.{SumKept, old_fits, new_fits, moves_G}
 use Rattle.procedure.proofs.Answers.{stays, kept, moved, update_short}
@@ -15,21 +16,20 @@ overflow_mul-before c = old_fits (weighed (goal.at.overflow_mul-before c).After-
 pub overflow_mul-after : goal.overflow_mul-after
 overflow_mul-after c = new_fits (weighed (goal.at.overflow_mul-after c).After-multiplier) c.requires.weights_fit
 
-pub returns-then-before-after : goal.returns-then-before-after
-returns-then-before-after c = search (stays, weighed (goal.at.returns-then-before-after c).After-multiplier, c.if-before-after.true)
+pub returns-then-before-after-clause-value : goal.returns-then-before-after-clause-value
+returns-then-before-after-clause-value c = stays _ _ _ (weighed (goal.at.returns-then-before-after-clause-value c).After-multiplier) c.if-before-after.true
 
-pub draw_lift-requires : goal.draw_lift-requires
-draw_lift-requires c = record {
-  weights_fit = c.requires.weights_fit;
-  bound = moves_G (weighed (goal.at.draw_lift-requires c).After-multiplier) c.requires.balanced c.if-before-after.false;
-}
+pub returns-in_err-r-clause-value : goal.returns-in_err-r-clause-value
+returns-in_err-r-clause-value c = let w = weighed (goal.at.returns-in_err-r-clause-value c).After-multiplier in
+    rw c.from_residual.ensures (update_short _ _ _ w c.if-before-after.false _ c.draw.ensures.value c.in_err-r.was)
 
-pub returns-then-r-after : goal.returns-then-r-after
-returns-then-r-after c = let w = weighed (goal.at.returns-then-r-after c).After-multiplier in
-    search (kept, w, c.if-before-after.false, c.if-r-after.true)
+pub returns-then-r-after-clause-value : goal.returns-then-r-after-clause-value
+returns-then-r-after-clause-value c = let w = weighed (goal.at.returns-then-r-after-clause-value c).After-multiplier in
+    kept _ _ _ w c.if-before-after.false _ c.draw.ensures.value c.in_ok-r.was c.if-r-after.true
 
-pub returns-else-r-after : goal.returns-else-r-after
-returns-else-r-after c = search (moved, weighed (goal.at.returns-else-r-after c).After-multiplier)
+pub draw_lift-requires-clause-some_grow : goal.draw_lift-requires-clause-some_grow
+draw_lift-requires-clause-some_grow c = moves_G (weighed (goal.at.draw_lift-requires-clause-some_grow c).After-multiplier) c.requires.balanced c.if-before-after.false
 
-pub returns-in-Short : goal.returns-in-Short
-returns-in-Short c = search (update_short, weighed (goal.at.returns-in-Short c).After-multiplier)
+pub returns-clause-value : goal.returns-clause-value
+returns-clause-value c = let w = weighed (goal.at.returns-clause-value c).After-multiplier in
+    (rw c.draw.ensures.list at c.draw_lift.ensures.value) ∙ moved _ _ _ w c.if-before-after.false _ c.draw.ensures.value c.in_ok-r.was c.if-r-after.false
