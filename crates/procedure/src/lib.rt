@@ -12,7 +12,7 @@ ghost use Rattle.weights.specs.Scaling.{HasSums, weights_by, Balanced};
 ghost use Rattle.procedure.specs.Preliminary.{proposed, Contested};
 
 use draw::Reader;
-use round::{Donors, Held, Selection};
+use round::{Donors, Held, Outcome, Selection};
 use weights::{Scale, Sums, Weighed};
 
 // Whether the lift at a place is one of the held lifts.
@@ -22,20 +22,22 @@ pub fn is_held(held: Held, place: usize) -> bool
     held.first == Some(place) || held.second == Some(place)
 }
 
-// The document's outcome of a choice.
+// The document's number of the outcome of a choice.
+#[tactic(auto, unfolding(round::specs::Choice::outcome))]
 pub fn outcome(held: bool, dropped: bool) -> u32
     ensures { result ≡ outcome_of held dropped }
 {
-    match (held, dropped) {
-        (true, _) => 1,
-        (false, true) => 2,
-        (false, false) => 3,
-    }
+    let outcome = match (held, dropped) {
+        (true, _) => Outcome::Held,
+        (false, true) => Outcome::Replacement,
+        (false, false) => Outcome::Fresh,
+    };
+    outcome as u32
 }
 
 // A draw below the sum of the growths picks the lift in whose interval it falls.
 fn draw_lift(round: &Weighed, dropped: bool, words: &mut Reader) -> Option<Selection>
-    requires some_grow { 1 ≤ G (weights_by round.now.scale round.now.rows.now) }
+    requires { 1 ≤ G (weights_by round.now.scale round.now.rows.now) }
     ensures value { let ws = weights_by round.now.scale round.now.rows.now in reached result words.new.at ≡ answer (run largest words.old.words.now words.old.at (draw_place (G ws) (map growth ws) dropped)) }
     ensures list { words.new.words ≡ words.old.words }
 {
@@ -68,7 +70,7 @@ fn update(round: &Weighed, place: usize, words: &mut Reader) -> Option<Selection
 
 // One of two held lifts, by a draw.
 fn draw_between(s: Scale, i: usize, j: usize, words: &mut Reader) -> Option<usize>
-    requires positive { 1 ≤ s.new }
+    requires { 1 ≤ s.new }
     ensures value { reached result words.new.at ≡ answer (run largest words.old.words.now words.old.at (draw_of s.new (λ v. cond (ltb v s.odds) (done i) (done j)))) }
     ensures list { words.new.words ≡ words.old.words }
 {
@@ -78,7 +80,7 @@ fn draw_between(s: Scale, i: usize, j: usize, words: &mut Reader) -> Option<usiz
 
 // The preliminary lift, if there is one, from the held lifts: of two here, a draw says which.
 fn find_preliminary(s: Scale, held: Held, words: &mut Reader) -> Option<Option<usize>>
-    requires contested { Contested s.new held.first held.second }
+    requires { Contested s.new held.first held.second }
     ensures value { reached result words.new.at ≡ proposed words.old.words.now words.old.at (preliminary_by s.new s.odds (initials held)) }
     ensures list { words.new.words ≡ words.old.words }
 {

@@ -18,13 +18,13 @@ pub scaling-scale-requires : goal.scaling-scale-requires
 scaling-scale-requires c = multipliable c.args.donors c.args.sums c.requires.has_sums c.requires.callable.fitting c.requires.callable.bounded
 
 pub find_preliminary-requires : goal.find_preliminary-requires
-find_preliminary-requires c = record { contested = contested _ (scale (goal.at.find_preliminary-requires c).After-scaling-scale) c.requires.callable }
+find_preliminary-requires c = contested _ (scale (goal.at.find_preliminary-requires c).After-scaling-scale) c.requires.callable
 
 pub invariant_of-whole : goal.invariant_of-whole
 invariant_of-whole c = record { fits = whole_room c.requires.callable.bounded }
 
 pub draw_lift-requires : goal.draw_lift-requires
-draw_lift-requires c = record { some_grow = whole_positive c.requires.callable.fitting }
+draw_lift-requires c = whole_positive c.requires.callable.fitting
 
 -- the update can be made
 updates : (c : In-Some) → let a = c.args in let ls = row_lifts a.rows.now in WeightsFit c.scaling-scale.result ls × (Balanced c.scaling-scale.result ls × (c.in-Some.place < length ls))

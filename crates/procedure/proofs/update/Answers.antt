@@ -16,7 +16,7 @@ returns-then-r-weight-clause-value c =
     kept _ _ _ _ _ c.weight_at-weight.ensures c.if-weight.false _ c.draw.ensures.value c.in_ok-r.was c.if-r-weight.true
 
 pub draw_lift-requires : goal.draw_lift-requires
-draw_lift-requires c = record { some_grow = moves_G c.requires.balanced c.requires.place_in_bounds c.weight_at-weight.ensures c.if-weight.false }
+draw_lift-requires c = moves_G c.requires.balanced c.requires.place_in_bounds c.weight_at-weight.ensures c.if-weight.false
 
 pub returns-clause-value : goal.returns-clause-value
 returns-clause-value c =
