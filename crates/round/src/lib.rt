@@ -60,3 +60,22 @@ impl From<[u32; Lift::ROW]> for Lift {
         }
     }
 }
+
+// The old and the new weight of a unit.
+#[derive(Clone, Copy)]
+pub struct Weight {
+    pub old: u64,
+    pub new: u64,
+}
+
+impl Weight {
+    ghost use Rattle.std.specs.Prelude.{◌≡◌};
+    ghost use Rattle.round.specs.Round.{growth};
+
+    // The growth where it is above zero, else 0.
+    pub fn growth(self) -> u64
+        ensures { result ≡ growth self }
+    {
+        self.new.saturating_sub(self.old)
+    }
+}
