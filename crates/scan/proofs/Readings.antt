@@ -1,6 +1,6 @@
 -- The laws of a word's fault, by its kind, and of the loop over the words of a sheet: one for each way out of a turn, and two for the end.
 use Prim.Native.Nat.{ℕ, zero, suc, ◌+◌, ◌-◌, ◌≤◌, ◌<◌}
-use mathlib.Core.Path.{◌≡◌, refl, sym, ap, subst, ◌∙◌}
+use mathlib.Core.Path.{◌≡◌, refl, sym, ap, subst}
 use mathlib.Core.Bool.{Bool, true, false, cond}
 use Rattle.std.proofs.Math.Bool.{and-false}
 use mathlib.Core.List.{List, [], ◌∷◌}
@@ -95,13 +95,12 @@ module _ {ws : List ℕ} {s : ScanState} where
     goes_on j n = one_turn first (rw here j) n
 
     -- three turns at once, each by a word that is not faulty
-    module _ {others : List ℕ} (e : others ≡ behind 1 rest) (m : 2 ≤ length others) where
-      pub goes_on_three : {t u v : ScanState}
-          → (fault s (get_or rest 0 0) ≡ 0) × (fault (next_state s (get_or rest 0 0)) (get_or others 0 0) ≡ 0) × (fault (next_state (next_state s (get_or rest 0 0)) (get_or others 0 0)) (get_or others 1 0) ≡ 0)
-          → t ≡ next_state s (get_or rest 0 0) → u ≡ next_state t (get_or others 0 0) → v ≡ next_state u (get_or others 1 0) → Kept ws v (behind 2 others)
-      goes_on_three f p q r =
-          let all : Kept ws s (get_or rest 0 0 ∷ get_or others 0 0 ∷ get_or others 1 0 ∷ behind 2 others) = subst (λ us. Kept ws s (get_or rest 0 0 ∷ us)) (sym e ∙ two_words others m) first in
-          one_turn (one_turn (one_turn all (rw f.0) p) (rw (p, f.1)) q) (rw (q, p, f.2)) r
+    pub goes_on_three : {t u v : ScanState} → 2 ≤ length (behind 1 rest)
+        → (fault s (get_or rest 0 0) ≡ 0) × (fault (next_state s (get_or rest 0 0)) (get_or (behind 1 rest) 0 0) ≡ 0) × (fault (next_state (next_state s (get_or rest 0 0)) (get_or (behind 1 rest) 0 0)) (get_or (behind 1 rest) 1 0) ≡ 0)
+        → t ≡ next_state s (get_or rest 0 0) → u ≡ next_state t (get_or (behind 1 rest) 0 0) → v ≡ next_state u (get_or (behind 1 rest) 1 0) → Kept ws v (behind 2 (behind 1 rest))
+    goes_on_three m f p q r =
+        let all : Kept ws s (get_or rest 0 0 ∷ get_or (behind 1 rest) 0 0 ∷ get_or (behind 1 rest) 1 0 ∷ behind 2 (behind 1 rest)) = subst (λ us. Kept ws s (get_or rest 0 0 ∷ us)) (two_words (behind 1 rest) m) first in
+        one_turn (one_turn (one_turn all (rw f.0) p) (rw (p, f.1)) q) (rw (q, p, f.2)) r
 
   -- past the last word the kind decides
   last : {rest : List ℕ} → length rest < 1 → Kept ws s rest → cond (eqb s.kind end_kind) sound (faulty (numbered 2 (length ws))) ≡ reading ws
@@ -114,3 +113,6 @@ module _ {ws : List ℕ} {s : ScanState} where
 
   pub stays_open : {rest : List ℕ} → length rest < 1 → Kept ws s rest → (s.kind ≡ end_kind → ⊥) → faulty (numbered 2 (length ws)) ≡ reading ws
   stays_open h k e = rw (ne_eqb _ _ e) at (last h k)
+
+-- what proves the turns and the ends of the loop: `search turns`
+pub ruleset turns = (stops, goes_on, goes_on_three, ends, stays_open)
