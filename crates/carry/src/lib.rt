@@ -20,7 +20,7 @@ pub fn remaining(sheet: &[u32], t: Tallies) -> usize
     requires tabled { Tabled (lifts_of_sheet sheet.now) t }
     ensures { result ≡ length (remaining_of (lifts_of_sheet sheet.now)) }
 {
-    scan::size(sheet) - t.new_lifts[0] as usize
+    scan::size(sheet) - t.new[0].lifts as usize
 }
 
 // The word of a place.
