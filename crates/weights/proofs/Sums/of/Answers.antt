@@ -1,10 +1,10 @@
--- `weights::sums_of` meets its contract: by how many donors there are. Assumes nothing.
+-- `weights::Sums::of` meets its contract: by how many donors there are. Assumes nothing.
 use native.Mathlib.Omega.{arith}
 use Rattle.weights.proofs.Scales.{whole_room, came_room, summed}
-use Rattle.weights.proofs.sums_of.Goals as goal
+use Rattle.weights.proofs.Sums.of.Goals as goal
 
-pub growth_sum-new-requires : goal.growth_sum-new-requires
-growth_sum-new-requires c = search whole_room
+pub invariant_of-whole : goal.invariant_of-whole
+invariant_of-whole c = record { fits = whole_room c.requires.1 }
 
 pub donated-requires : goal.donated-requires
 donated-requires c = let p = c.requires in came_room p.0 p.1 0 (rw c.in-One.is (omega arith))

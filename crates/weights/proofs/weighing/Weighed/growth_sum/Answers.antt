@@ -1,4 +1,4 @@
--- `weights::growth_sum` meets its contract: G is the sum over the rows. Assumes nothing.
+-- `weights::Weighed::growth_sum` meets its contract: G is the sum over the rows. Assumes nothing.
 use native.Mathlib.Omega.{arith}
 use Prim.Native.Nat.{◌<◌, ◌^◌}
 use Rattle.std.proofs.Common.{rules}
@@ -8,17 +8,17 @@ use Rattle.round.specs.Round.{growth}
 use Rattle.round.specs.Rows.{row_lift}
 use Rattle.weights.specs.Scaling.{scaled, LiftWeightsFit}
 use Rattle.weights.proofs.Loops.{rows_G, G_room, rows_room}
-use Rattle.weights.proofs.growth_sum.Goals as goal
+use Rattle.weights.proofs.weighing.Weighed.growth_sum.Goals as goal
 
 pub sum-requires-clause-can : goal.sum-requires-clause-can
 sum-requires-clause-can c =
-    let room : All (λ row. LiftWeightsFit c.args.s (row_lift row)) c.rows_of.result.now = rows_room _ c.rows_of.ensures c.requires in
+    let room : All (λ row. LiftWeightsFit c.args.self.now.scale (row_lift row)) c.rows_of.result.now = rows_room _ c.rows_of.ensures c.args.self.now.fits in
     grind serving
 
 pub sum-requires-clause-fits : goal.sum-requires-clause-fits
 sum-requires-clause-fits c =
-    let fits : sum_by (λ row. growth (scaled c.args.s (row_lift row))) c.rows_of.result.now < 2 ^ 64 = omega (arith, rows_G c.args.s _ c.rows_of.ensures, G_room c.requires) in
+    let fits : sum_by (λ row. growth (scaled c.args.self.now.scale (row_lift row))) c.rows_of.result.now < 2 ^ 64 = omega (arith, rows_G c.args.self.now.scale _ c.rows_of.ensures, G_room c.args.self.now.fits) in
     search rules
 
 pub returns : goal.returns
-returns c = rw (rows_G c.args.s _ c.rows_of.ensures) (search rules)
+returns c = rw (rows_G c.args.self.now.scale _ c.rows_of.ensures) (search rules)
