@@ -48,7 +48,7 @@ fn whole_text(sheet: &[u8], size: usize, words: &[u8]) -> Text
     if Sheet::LONGEST < size / 4 {
         return Text::refused(Refusal::Length(size / 4));
     }
-    let kept = sheet.len().min(size);
+    let kept = size.min(sheet.len());
     chosen_text(&sheet[..kept], words)
 }
 

@@ -44,7 +44,7 @@ pub fn decode<'a, W: Word<N>, const N: usize>(bytes: &[u8], room: &'a mut [W]) -
     ensures { result.now ≡ take (length room.old) (map W.of_bytes (pieces N bytes.now)) }
 {
     let chunks = bytes.as_chunks::<N>().0;
-    let n = chunks.len().min(room.len());
+    let n = room.len().min(chunks.len());
     for (i, chunk) in chunks[..n].iter().enumerate() {
         room[i] = W::from_bytes(*chunk);
     }
