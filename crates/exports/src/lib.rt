@@ -94,7 +94,7 @@ pub extern "C" fn jengpilo_round_select(
 {
     let from = donors_from(donors, t1, t2);
     let here = held_from(held, i, j);
-    let sums = weights::sums_of(rows, from);
+    let sums = weights::Sums::of(rows, from);
     match procedure::select(rows, from, here, sums, words, at) {
         Selected::At(p, dropped, n) => {
             *place = p;

@@ -1,5 +1,5 @@
 -- The answer to a run, draw by draw: one law for each way out of the code.
-use Prim.Native.Nat.{ℕ, ◌*◌, ◌≤◌, ◌<◌}
+use Prim.Native.Nat.{ℕ, ◌≤◌, ◌<◌}
 use mathlib.Core.Path.{◌≡◌, refl, sym, ap, ◌∙◌}
 use mathlib.Core.Bool.{Bool, false, cond}
 use mathlib.Core.List.{List, map}
@@ -14,7 +14,7 @@ use Rattle.draw.specs.Draw.{largest, draw_at, reached}
 use Rattle.draw.specs.Run.{Run, finished, short, extend_run, run, answer, preceded_by, continued}
 use Rattle.draw.proofs.Runs.{run_every}
 use Rattle.draw.proofs.After.{run_bind}
-use Rattle.round.specs.Round.{Weight, weights, growth, G}
+use Rattle.round.specs.Round.{weights, weight_at, growth, G}
 use Rattle.round.specs.Choice.{selection, draw_place, fresh, preliminary_by, preliminary, stay_or, replacement, keyfitz, plan_by, plan}
 use Rattle.round.specs.Rows.{initial_of, initials, Callable}
 use Rattle.weights.specs.Scaling.{scaled, scale_of, wholly, WeightsFit, Balanced}
@@ -23,8 +23,8 @@ use Rattle.round.specs.declared.Donors.{Donors}
 use Rattle.round.specs.declared.Held.{Held}
 use Rattle.round.specs.declared.Lift.{Lift}
 use Rattle.round.specs.declared.Selection.{Selection}
+use Rattle.round.specs.declared.Weight.{Weight}
 use Rattle.weights.specs.declared.Scale.{Scale}
-use Rattle.weights.proofs.Loops.{SumKept, weight_at_lem}
 use Rattle.round.proofs.Laws.{donor_D, placed_preliminary}
 use Rattle.weights.proofs.Scales.{updatable, fresh_scaled, weights_scaled}
 
@@ -58,31 +58,30 @@ module _ (m : ℕ) (ws : List ℕ) (from : ℕ) where
 
   -- ---- Keyfitz's update
 
-  module _ {s : Scale} {ls : List Lift} {i x : ℕ} {l : Lift} (w : SumKept s ls i x l) where
+  -- what follows a draw r below the old weight of the lift at place i
+  abbrev after : List Weight → ℕ → Weight → ℕ → Plan Selection
+  after wts i w r = cond (ltb r w.new) (done (selection i false)) (replacement wts)
+
+  module _ (wts : List Weight) (i : ℕ) {w : Weight} (u : w ≡ weight_at wts i) where
     -- it stays with no draw
-    pub stays : l.old * x ≤ l.new * s.new → Some (selection i false, from) ≡ answer (run m ws from (keyfitz (map (scaled s) ls) i))
+    pub stays : w.old ≤ w.new → Some (selection i false, from) ≡ answer (run m ws from (keyfitz wts i))
     unfolding keyfitz stay_or run
-    stays k = rw (weight_at_lem w, le-leb _ _ k)
+    stays k = rw (← u, le-leb _ _ k)
 
-    -- what follows a draw r below its old weight
-    abbrev then : ℕ → Plan Selection
-    then r = cond (ltb r (l.new * s.new)) (done (selection i false)) (replacement (map (scaled s) ls))
-
-    module _ (shrinks : l.new * s.new < l.old * x) {f : Option ℕ} (n : ℕ) (e : reached f n ≡ draw_at m ws from (l.old * x)) where
+    module _ (shrinks : w.new < w.old) {f : Option ℕ} (n : ℕ) (e : reached f n ≡ draw_at m ws from w.old) where
       -- it stays by the draw r
-      pub kept : {r : ℕ} → f ≡ Some r → r < l.new * s.new → Some (selection i false, n) ≡ answer (run m ws from (keyfitz (map (scaled s) ls) i))
+      pub kept : {r : ℕ} → f ≡ Some r → r < w.new → Some (selection i false, n) ≡ answer (run m ws from (keyfitz wts i))
       unfolding keyfitz stay_or run
-      kept q k = rw (weight_at_lem w, lt-leb _ _ shrinks) (rw (lt-ltb _ _ k) at (on_value (l.old * x) n then e q))
+      kept q k = rw (← u, lt-leb _ _ shrinks) (rw (lt-ltb _ _ k) at (on_value w.old n (after wts i w) e q))
 
       -- it is dropped by the draw r, and another takes its place
-      pub moved : {r : ℕ} → f ≡ Some r → l.new * s.new ≤ r
-          → answer (run m ws n (replacement (map (scaled s) ls))) ≡ answer (run m ws from (keyfitz (map (scaled s) ls) i))
+      pub moved : {r : ℕ} → f ≡ Some r → w.new ≤ r → answer (run m ws n (replacement wts)) ≡ answer (run m ws from (keyfitz wts i))
       unfolding keyfitz stay_or
-      moved q k = rw (weight_at_lem w, lt-leb _ _ shrinks) (rw (le-ltb _ _ k) at (on_value (l.old * x) n then e q))
+      moved q k = rw (← u, lt-leb _ _ shrinks) (rw (le-ltb _ _ k) at (on_value w.old n (after wts i w) e q))
 
-      pub update_short : f ≡ None → None ≡ answer (run m ws from (keyfitz (map (scaled s) ls) i))
+      pub update_short : f ≡ None → None ≡ answer (run m ws from (keyfitz wts i))
       unfolding keyfitz stay_or
-      update_short q = rw (weight_at_lem w, lt-leb _ _ shrinks) (on_end (l.old * x) n then e q)
+      update_short q = rw (← u, lt-leb _ _ shrinks) (on_end w.old n (after wts i w) e q)
 
 -- ---- the preliminary lift
 

@@ -8,12 +8,12 @@ ghost use Rattle.draw.specs.Run.{run, answer};
 ghost use Rattle.round.specs.Round.{growth, G};
 ghost use Rattle.round.specs.Choice.{draw_place, preliminary_by, keyfitz, is_held, outcome as outcome_of, selected};
 ghost use Rattle.round.specs.Rows.{row_lifts, initials, Callable};
-ghost use Rattle.weights.specs.Scaling.{HasSums, scaled, WeightsFit, Balanced};
+ghost use Rattle.weights.specs.Scaling.{HasSums, weights_by, Balanced};
 ghost use Rattle.procedure.specs.Preliminary.{proposed, Contested};
 
 use draw::Reader;
-use round::{Donors, Held, Selection};
-use weights::{Scale, Sums, WHOLLY, growth_sum, lift_at, multiplier, pick_lift, scaling};
+use round::{Donors, Held, Outcome, Selection};
+use weights::{Scale, Sums, Weighed};
 
 // Whether the lift at a place is one of the held lifts.
 pub fn is_held(held: Held, place: usize) -> bool
@@ -22,57 +22,55 @@ pub fn is_held(held: Held, place: usize) -> bool
     held.first == Some(place) || held.second == Some(place)
 }
 
-// The document's outcome of a choice.
+// The document's number of the outcome of a choice.
+#[tactic(auto, unfolding(round::specs::Choice::outcome))]
 pub fn outcome(held: bool, dropped: bool) -> u32
     ensures { result ≡ outcome_of held dropped }
 {
-    match (held, dropped) {
-        (true, _) => 1,
-        (false, true) => 2,
-        (false, false) => 3,
-    }
+    let outcome = match (held, dropped) {
+        (true, _) => Outcome::Held,
+        (false, true) => Outcome::Replacement,
+        (false, false) => Outcome::Fresh,
+    };
+    outcome as u32
 }
 
 // A draw below the sum of the growths picks the lift in whose interval it falls.
-fn draw_lift(s: Scale, rows: &[u32], dropped: bool, words: &mut Reader) -> Option<Selection>
-    requires weights_fit { WeightsFit s (row_lifts rows.now) }
-    requires some_grow { 1 ≤ G (map (scaled s) (row_lifts rows.now)) }
-    ensures value { let ws = map (scaled s) (row_lifts rows.now) in reached result words.new.at ≡ answer (run largest words.old.words.now words.old.at (draw_place (G ws) (map growth ws) dropped)) }
+fn draw_lift(round: &Weighed, dropped: bool, words: &mut Reader) -> Option<Selection>
+    requires { 1 ≤ G (weights_by round.now.scale round.now.rows.now) }
+    ensures value { let ws = weights_by round.now.scale round.now.rows.now in reached result words.new.at ≡ answer (run largest words.old.words.now words.old.at (draw_place (G ws) (map growth ws) dropped)) }
     ensures list { words.new.words ≡ words.old.words }
 {
-    let q = words.draw(growth_sum(s, rows))?;
-    let place = pick_lift(s, rows, q);
+    let q = words.draw(round.growth_sum())?;
+    let place = round.pick(q);
     Some(Selection { place, dropped })
 }
 
-// Keyfitz's update of the preliminary lift at place i.
-fn update(s: Scale, rows: &[u32], i: usize, words: &mut Reader) -> Option<Selection>
-    requires weights_fit { WeightsFit s (row_lifts rows.now) }
-    requires balanced { Balanced s (row_lifts rows.now) }
-    requires i_in_bounds { i < length (row_lifts rows.now) }
-    ensures value { reached result words.new.at ≡ answer (run largest words.old.words.now words.old.at (keyfitz (map (scaled s) (row_lifts rows.now)) i)) }
+// Keyfitz's update of the preliminary lift at a place.
+fn update(round: &Weighed, place: usize, words: &mut Reader) -> Option<Selection>
+    requires balanced { Balanced round.now.scale (row_lifts round.now.rows.now) }
+    requires place_in_bounds { place < length (row_lifts round.now.rows.now) }
+    ensures value { reached result words.new.at ≡ answer (run largest words.old.words.now words.old.at (keyfitz (weights_by round.now.scale round.now.rows.now) place)) }
     ensures list { words.new.words ≡ words.old.words }
 {
     let stays = Selection {
-        place: i,
+        place,
         dropped: false,
     };
-    let l = lift_at(rows, i);
-    let before = l.old * multiplier(s, l.donor);
-    let after = l.new * s.new;
-    if before <= after {
+    let weight = round.weight_at(place);
+    if weight.old <= weight.new {
         return Some(stays);
     }
-    let r = words.draw(before)?;
-    if r < after {
+    let r = words.draw(weight.old)?;
+    if r < weight.new {
         return Some(stays);
     }
-    draw_lift(s, rows, true, words)
+    draw_lift(round, true, words)
 }
 
 // One of two held lifts, by a draw.
 fn draw_between(s: Scale, i: usize, j: usize, words: &mut Reader) -> Option<usize>
-    requires positive { 1 ≤ s.new }
+    requires { 1 ≤ s.new }
     ensures value { reached result words.new.at ≡ answer (run largest words.old.words.now words.old.at (draw_of s.new (λ v. cond (ltb v s.odds) (done i) (done j)))) }
     ensures list { words.new.words ≡ words.old.words }
 {
@@ -82,7 +80,7 @@ fn draw_between(s: Scale, i: usize, j: usize, words: &mut Reader) -> Option<usiz
 
 // The preliminary lift, if there is one, from the held lifts: of two here, a draw says which.
 fn find_preliminary(s: Scale, held: Held, words: &mut Reader) -> Option<Option<usize>>
-    requires contested { Contested s.new held.first held.second }
+    requires { Contested s.new held.first held.second }
     ensures value { reached result words.new.at ≡ proposed words.old.words.now words.old.at (preliminary_by s.new s.odds (initials held)) }
     ensures list { words.new.words ≡ words.old.words }
 {
@@ -106,9 +104,18 @@ pub fn select(
     ensures value { reached result words.new.at ≡ selected donors (row_lifts rows.now) (initials held) words.old.words.now words.old.at }
     ensures list { words.new.words ≡ words.old.words }
 {
-    let s = scaling(sums, donors);
-    match find_preliminary(s, held, words)? {
-        None => draw_lift(WHOLLY, rows, false, words),
-        Some(i) => update(s, rows, i, words),
+    let scale = sums.scaling(donors);
+    match find_preliminary(scale, held, words)? {
+        None => {
+            let whole = Weighed {
+                scale: Scale::WHOLLY,
+                rows,
+            };
+            draw_lift(&whole, false, words)
+        }
+        Some(place) => {
+            let round = Weighed { scale, rows };
+            update(&round, place, words)
+        }
     }
 }

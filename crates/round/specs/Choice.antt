@@ -6,11 +6,12 @@ use Rattle.probability.specs.Plan.{Plan, done, draw}
 use Rattle.probability.specs.Branch.{Branch, absent, present, join, update_or}
 use Rattle.draw.specs.Draw.{largest}
 use Rattle.draw.specs.Run.{run, answer}
-use Rattle.round.specs.Round.{S, U, D, Weight, weights, weight_at, growth, G}
+use Rattle.round.specs.Round.{S, U, D, weights, weight_at, growth, G}
 use Rattle.round.specs.declared.Donors.{Donors}
 use Rattle.round.specs.declared.Donors.TheVariants.{None, One, Two}
 use Rattle.round.specs.declared.Lift.{Lift}
 use Rattle.round.specs.declared.Selection.{Selection}
+use Rattle.round.specs.declared.Weight.{Weight}
 
 -- the choice of the lift at a place, and whether a preliminary lift was dropped for it
 abbrev pub selection : ℕ → Bool → Selection

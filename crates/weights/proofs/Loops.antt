@@ -1,13 +1,11 @@
 -- The rows of a round and the sums over them, and the search for the place in whose interval a position falls.
-use Prim.Native.Nat.{ℕ, zero, suc, ◌+◌, ◌*◌, ◌-◌, ◌/◌, ◌^◌, ◌≤◌, ◌<◌}
-use mathlib.Core.Path.{◌≡◌, refl, ap, ap₂}
+use Prim.Native.Nat.{ℕ, zero, suc, ◌+◌, ◌-◌, ◌/◌, ◌^◌, ◌≤◌, ◌<◌}
+use mathlib.Core.Path.{◌≡◌, refl, ap}
 use mathlib.Core.List.{List, [], ◌∷◌, map, map-map}
 use native.Mathlib.Numerals.{add-one}
 use native.Mathlib.Omega.{arith}
 use lib.ListN.{length, get_or, take, drop, drop_of_length-le, length-map, get_or-map}
 use lib.Seq.{drop-cons}
-use mir.Val.{Fits}
-use mir.Syntax.{w64}
 use Rattle.std.specs.List.{sum_by, All}
 use Rattle.std.specs.Simd.{first_chunks}
 use Rattle.std.proofs.lemmas.List.Elements.{All-from_get_or}
@@ -17,10 +15,11 @@ use Rattle.probability.specs.Interval.{pick}
 use Rattle.probability.specs.Pieces.{cut}
 use Rattle.probability.proofs.Sums.{total_map, map_le}
 use Rattle.probability.proofs.Intervals.{pick_here, pick_beyond}
-use Rattle.round.specs.Round.{lift_at, U, measure_from, Weight, weight_at, growth, G}
+use Rattle.round.specs.Round.{lift_at, U, measure_from, weight_at, growth, G}
 use Rattle.round.specs.Rows.{lift_of_measures, row_length, row_lift, row_lifts}
-use Rattle.weights.specs.Scaling.{multiplier_of, scaled, WeightsFit, LiftWeightsFit, Balanced}
+use Rattle.weights.specs.Scaling.{scaled, WeightsFit, LiftWeightsFit, Balanced}
 use Rattle.round.specs.declared.Lift.{Lift}
+use Rattle.round.specs.declared.Weight.{Weight}
 use Rattle.weights.specs.declared.Scale.{Scale}
 use Rattle.round.proofs.WeightSums.{U_sum, dropped_G, G_le}
 
@@ -94,31 +93,8 @@ rows_room {s} rs e r = All-from_get_or (λ row. LiftWeightsFit s (row_lift row))
 pub G_room : {s : Scale} {ls : List Lift} → WeightsFit s ls → G (map (scaled s) ls) ≤ 2 ^ 61
 G_room {s} {ls} r = omega (arith, G_le (map (scaled s) ls), total_map (scaled s) (λ w. w.new) ls, r.news)
 
--- ---- the weights of the lift at i
-
-none_scaled : (s : Scale) → ◌≡◌ {A = Weight} (record { old = 0; new = 0 }) (scaled s (lift_of_measures 0 0 0))
-none_scaled s = ap₂ (λ m b. record { old = m; new = b }) (omega arith) (omega arith)
-
--- l is the lift at i, and x multiplies its old measure
-pub record SumKept (s : Scale) (ls : List Lift) (i x : ℕ) (l : Lift) : Type 0 where
-  pub inside : i < length ls
-  pub reads : l ≡ lift_at ls i
-  pub multiplies : x ≡ multiplier_of s l.donor
-
-module _ {s : Scale} {ls : List Lift} {i x : ℕ} {l : Lift} (k : SumKept s ls i x l) where
-  room : WeightsFit s ls → LiftWeightsFit s l
-  room r = rw k.reads (lift_room r k.inside)
-
-  pub new_fits : WeightsFit s ls → Fits w64 (l.new * s.new)
-  new_fits r = omega (arith, (room r).new)
-
-  pub old_fits : WeightsFit s ls → Fits w64 (l.old * x)
-  old_fits r = rw k.multiplies (omega (arith, (room r).old))
-
-  pub weight_at_lem : weight_at (map (scaled s) ls) i ≡ record { old = l.old * x; new = l.new * s.new }
-  weight_at_lem = rw (none_scaled s, get_or-map (scaled s) ls i (lift_of_measures 0 0 0), ← k.reads, k.multiplies)
-
-  -- where the lift may be dropped, another grows
-  pub moves_G : Balanced s ls → l.new * s.new < l.old * x → 1 ≤ G (map (scaled s) ls)
-  moves_G b h =
-      dropped_G (map (scaled s) ls) i (rw (total_map (scaled s) (λ w. w.old) ls, total_map (scaled s) (λ w. w.new) ls) b.sums) (rw length-map k.inside) (rw weight_at_lem h)
+-- where the lift at i may be dropped, another grows
+pub moves_G : {s : Scale} {ls : List Lift} {i : ℕ} {w : Weight} → Balanced s ls → i < length ls → w ≡ weight_at (map (scaled s) ls) i → w.new < w.old
+    → 1 ≤ G (map (scaled s) ls)
+moves_G {s} {ls} {i} b h e l =
+    dropped_G (map (scaled s) ls) i (rw (total_map (scaled s) (λ w. w.old) ls, total_map (scaled s) (λ w. w.new) ls) b.sums) (rw length-map h) (rw e at l)

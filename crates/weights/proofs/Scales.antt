@@ -1,6 +1,6 @@
 -- The code's multipliers give the weights of the round, or let each lift grow by its whole new measure; and all of it has room.
 use Prim.Native.Nat.{ℕ, ◌+◌, ◌*◌, ◌^◌, ◌≤◌, ◌<◌}
-use mathlib.Core.Path.{◌≡◌, refl, ap, ap₂, fun_ext, ◌∙◌}
+use mathlib.Core.Path.{◌≡◌, refl, ap, fun_ext, ◌∙◌}
 use mathlib.Core.Bool.{Bool, true, false, cond}
 use mathlib.Core.List.{List, [], ◌∷◌, map, map-map}
 use native.Mathlib.Nat.{mul-le-mul}
@@ -12,13 +12,14 @@ use lib.Dec.{eqb}
 use borrow.Author.Tests.{eqb-true}
 use Rattle.probability.specs.Sum.{total}
 use Rattle.probability.proofs.Sums.{total_map, total_mul}
-use Rattle.round.specs.Round.{S, U, measure_from, D, old_weight, new_weight, Weight, weights, growth, G, whole_sums, WellPosed}
+use Rattle.round.specs.Round.{S, U, measure_from, D, old_weight, new_weight, weights, growth, G, whole_sums, WellPosed}
 use Rattle.round.specs.Choice.{draw_place, fresh, first_odds}
 use Rattle.round.specs.Rows.{capacity, Bounded, SumsBounded}
 use Rattle.weights.specs.Scaling.{HasSums, ProductsFit, scaled, scale_of, wholly, WeightsFit, Balanced}
 use Rattle.round.specs.declared.Donors.{Donors}
 use Rattle.round.specs.declared.Donors.TheVariants.{None, One, Two}
 use Rattle.round.specs.declared.Lift.{Lift}
+use Rattle.round.specs.declared.Weight.{Weight}
 use Rattle.weights.specs.declared.Scale.{Scale}
 use Rattle.weights.specs.declared.Sums.{Sums}
 use Rattle.round.proofs.WeightSums.{old_sum, new_sum, came, weight_bound}
@@ -110,8 +111,8 @@ multipliable (Two T₁ T₂) {ls} t e f b =
     (b.old, (omega (arith, e.new, b.new), omega (arith, e.first (omega arith), u 0 (omega arith)), omega (arith, e.second (omega arith), u 1 (omega arith))))
 
 -- the multipliers from the sums of a round, by the document's cases
-scales : {d x y u v o : ℕ} → x ≡ u → y ≡ v → ◌≡◌ {A = Scale} (record { new = d; first = x; second = y; odds = o }) (record { new = d; first = u; second = v; odds = o })
-scales {d} {o = o} = ap₂ (λ a b. record { new = d; first = a; second = b; odds = o })
+pub scales : {n x y o m u v p : ℕ} → n ≡ m → x ≡ u → y ≡ v → o ≡ p → ◌≡◌ {A = Scale} (record { new = n; first = x; second = y; odds = o }) (record { new = m; first = u; second = v; odds = p })
+scales e f g h = cc
 
 unfoldable pub multipliers : (ds : Donors) (t : Sums) → Scale
 multipliers None t = record { new = 0; first = 0; second = 0; odds = 0 }
@@ -121,8 +122,8 @@ multipliers (Two T₁ T₂) t = record { new = t.first * T₂ + t.second * T₁;
 pub multiplied_by : (ds : Donors) (t : Sums) (ls : List Lift) → HasSums ds ls t → multipliers ds t ≡ scale_of ds ls
 unfolding multipliers D old_weight first_odds
 multiplied_by None t ls u = refl
-multiplied_by (One T) t ls u = rw (u.new, u.first (omega arith)) (scales (omega arith) (omega arith))
-multiplied_by (Two T₁ T₂) t ls u = rw (u.new, u.first (omega arith), u.second (omega arith)) (scales (omega arith) (omega arith))
+multiplied_by (One T) t ls u = rw (u.new, u.first (omega arith)) (scales refl (omega arith) (omega arith) refl)
+multiplied_by (Two T₁ T₂) t ls u = rw (u.new, u.first (omega arith), u.second (omega arith)) (scales refl (omega arith) (omega arith) refl)
 
 -- what came from a donor has room
 pub came_room : {ds : Donors} {ls : List Lift} → WellPosed ds ls → Bounded ds ls → (i : ℕ) → i < length (whole_sums ds) → U (1 + i) ls ≤ 2 ^ 61

@@ -6,4 +6,4 @@ pub returns-in_err-q-clause-value : goal.returns-in_err-q-clause-value
 returns-in_err-q-clause-value c = rw c.from_residual.ensures (drawn_short _ _ _ _ _ c.growth_sum.ensures _ c.draw.ensures.value c.in_err-q.was)
 
 pub returns-clause-value : goal.returns-clause-value
-returns-clause-value c = drawn _ _ _ _ _ c.growth_sum.ensures _ c.draw.ensures.value c.in_ok-q.was c.pick_lift-place.ensures
+returns-clause-value c = drawn _ _ _ _ _ c.growth_sum.ensures _ c.draw.ensures.value c.in_ok-q.was c.pick-place.ensures
