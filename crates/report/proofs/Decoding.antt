@@ -11,8 +11,8 @@ use Rattle.std.proofs.lemmas.List.{take-map, take_min}
 use Rattle.std.specs.Int.{byte_worth, sum_through, from_le_bytes}
 use Rattle.std.specs.List.{slice_index}
 use Rattle.std.specs.Simd.{first_chunks}
-use Rattle.probability.specs.Pieces.{cut, pieces}
-use Rattle.probability.proofs.Pieces.{length_pieces, pieces_first}
+use Rattle.probability.specs.Pieces.{pieces}
+use Rattle.probability.proofs.Pieces.{chunks_pieces, length_pieces, pieces_first}
 use Rattle.sheet.specs.Sheet.{longest}
 use Rattle.report.specs.Report.{little_endian, little_endian_words, sheet_words, most_words, random_words, CountTheorem}
 
@@ -43,11 +43,6 @@ word_8 bytes h = worth_through 7 bytes (omega arith) ∙ ap little_endian (take_
 
 -- ---- many
 
-pub chunks_cut : {A : Type 0} (size n : ℕ) (xs : List A) → first_chunks size n xs ≡ cut size n xs
-unfolding cut
-chunks_cut size zero xs = refl
-chunks_cut size (suc n) xs = ap (λ l. take size xs ∷ l) (chunks_cut size n (drop size xs))
-
 pub length_words : (size : ℕ) (bytes : List ℕ) → length (little_endian_words size bytes) ≡ length bytes / size
 unfolding little_endian_words
 length_words size bytes = rw (length-map, length_pieces)
@@ -57,7 +52,7 @@ pub decoded : {A : Type 0} (f : List ℕ → A) (size most : ℕ) (bytes : List 
     → chunks ≡ first_chunks size (length bytes / size) bytes → n ≡ min most (length chunks) → length (take n chunks) ≤ i → i ≤ length (take n chunks)
     → take i room ≡ map f (take i (take n chunks)) → take n room ≡ take most (map f (pieces size bytes))
 decoded f size most bytes {chunks} room {n} {i} e m low high same =
-    let p : chunks ≡ pieces size bytes = e ∙ chunks_cut size (length bytes / size) bytes in
+    let p : chunks ≡ pieces size bytes = e ∙ chunks_pieces size bytes in
     let q : length chunks ≡ length (map f (pieces size bytes)) = ap length p ∙ sym (length-map (pieces size bytes) f) in
     let l : length (take n chunks) ≡ n = length-take-le n chunks (omega arith) in
     let k : i ≡ n = omega arith in

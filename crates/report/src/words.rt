@@ -6,12 +6,14 @@ ghost use Rattle.report.specs.Report.{little_endian};
 
 // A word of N bytes.
 pub trait Word<const N: usize>: Copy {
+    // The word that N bytes stand for.
     ghost of_bytes: { List ℕ → Self };
 
-    // The word of some bytes.
+    // Reads it from the bytes.
     fn from_bytes(bytes: [u8; N]) -> Self
         ensures { result ≡ of_bytes bytes.entry };
 
+    // There are bytes, and few.
     ghost size: { (0 < N) × (N ≤ 8) };
 }
 
