@@ -3,7 +3,7 @@ use Prim.Native.Nat.{ℕ, ◌^◌, ◌≤◌, ◌<◌}
 use mathlib.Core.Path.{◌≡◌, refl}
 use mathlib.Core.Bool.{Bool, true, false, cond, not, ◌&&◌, false≢true}
 use mathlib.Core.List.{List, [], ◌∷◌}
-use mathlib.Core.Option.{some}
+use Rattle.std.specs.Prelude.{Some}
 use native.Mathlib.Omega.{arith}
 use lib.Dec.{eqb}
 use borrow.Author.Tests.{leb-true}
@@ -39,15 +39,15 @@ pub count_small : (l : List ℕ) {n c : ℕ} → count_line l ≡ counted n c �
 count_small l e = (entry_small l e).1
 
 -- so is a lift's new measure
-pub measure_for_small : (xs : List (List ℕ)) (n : ℕ) {m : ℕ} → measure_for xs n ≡ some m → m ≤ largest_sum
+pub measure_for_small : (xs : List (List ℕ)) (n : ℕ) {m : ℕ} → measure_for xs n ≡ Some m → m ≤ largest_sum
 unfolding measure_for
 measure_for_small [] n {m} q = let z : ◌≡◌ {A = ℕ} 0 1 = cc in absurd (omega arith)
 measure_for_small (x ∷ xs) n {m} q = go (count_line x) refl q (measure_for_small xs n)
   where
-    go : (e : CountLine) → count_line x ≡ e → measure_by e n (measure_for xs n) ≡ some m → (measure_for xs n ≡ some m → m ≤ largest_sum) → m ≤ largest_sum
+    go : (e : CountLine) → count_line x ≡ e → measure_by e n (measure_for xs n) ≡ Some m → (measure_for xs n ≡ Some m → m ≤ largest_sum) → m ≤ largest_sum
     go malformed h q r = r q
     go (counted l c) h q r = by (eqb l n) q
       where
-        by : (t : Bool) → cond t (some (hundreds c)) (measure_for xs n) ≡ some m → m ≤ largest_sum
+        by : (t : Bool) → cond t (Some (hundreds c)) (measure_for xs n) ≡ Some m → m ≤ largest_sum
         by true q = let e : hundreds c ≡ m = cc in omega (arith, count_small x h)
         by false q = r q

@@ -4,7 +4,7 @@ use Prim.Native.Nat.{ℕ, zero, suc, ◌+◌, ◌<◌}
 use mathlib.Core.Path.{◌≡◌, refl, sym, ◌∙◌}
 use mathlib.Core.Bool.{Bool, true, false, cond, not, ◌&&◌, ◌||◌, true≢false}
 use mathlib.Core.List.{List, [], ◌∷◌, map}
-use mathlib.Core.Option.{Option, none, some}
+use Rattle.std.specs.Prelude.{Option, Some, None}
 use native.Mathlib.Omega.{arith}
 use lib.Dec.{eqb}
 use lib.ListN.{length, get_or, length-map}
@@ -106,8 +106,8 @@ measured_writable : (xs : List (List ℕ)) (l : Lift) → Writable l → Writabl
 measured_writable xs l w = go (measure_for xs l.number) refl
   where
     go : (o : Option ℕ) → measure_for xs l.number ≡ o → Writable (measured_by l o)
-    go none e = w
-    go (some m) e =
+    go None e = w
+    go (Some m) e =
         record { number = w.number; old = w.old; new = record { round = w.new.round; measure = omega (arith, measure_for_small xs l.number e) } }
 
 all_writable : (xs : List (List ℕ)) (n : ℕ) (ls : List Lift) → AllWellFormed n ls → AllWritable (map (measured xs) ls)

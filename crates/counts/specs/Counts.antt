@@ -1,6 +1,5 @@
 -- Counts taken into a sheet (Card 1 of document 02): the refusals in their order, the reply, and the sheet at the end.
-use Rattle.std.specs.Prelude.{ℕ, ◌+◌, ◌/◌, cond, not, ◌&&◌, List, [], ◌∷◌, map, eqb, length}
-use Rattle.std.proofs.Math.Option.{Option, none, some}
+use Rattle.std.specs.Prelude.{ℕ, ◌+◌, ◌/◌, cond, not, ◌&&◌, List, [], ◌∷◌, map, eqb, length, Option, Some, None}
 use Rattle.probability.specs.Among.{among}
 use Rattle.sheet.specs.Sheet.{Lift, lifts, sheet_of}
 use Rattle.reply.specs.Reply.{numbered, replied, unless_refused}
@@ -41,18 +40,18 @@ remeasured l m = record { number = l.number; old = l.old; new = record { round =
 
 -- "the lift's new measure becomes the count divided by 100, rounded up": if the line names lift n, else the measure that other lines give it
 abbrev pub measure_by : CountLine → ℕ → Option ℕ → Option ℕ
-measure_by (counted m c) n other = cond (eqb m n) (some (hundreds c)) other
+measure_by (counted m c) n other = cond (eqb m n) (Some (hundreds c)) other
 measure_by malformed n other = other
 
 -- the new measure that the lines give lift n, if one names it
 unfoldable pub measure_for : List (List ℕ) → ℕ → Option ℕ
-measure_for [] n = none
+measure_for [] n = None
 measure_for (x ∷ xs) n = measure_by (count_line x) n (measure_for xs n)
 
 -- "Lifts without a line keep theirs."
 abbrev pub measured_by : Lift → Option ℕ → Lift
-measured_by l (some m) = remeasured l m
-measured_by l none = l
+measured_by l (Some m) = remeasured l m
+measured_by l None = l
 
 abbrev pub measured : List (List ℕ) → Lift → Lift
 measured xs l = measured_by l (measure_for xs l.number)

@@ -1,37 +1,22 @@
 -- Digits read one by one: clamping after each digit is clamping the number. The laws of the loop over digits, and of a number's ways out.
-use Prim.Native.Nat.{ℕ, suc, ◌+◌, ◌*◌, ◌-◌, ◌≤◌, ◌<◌}
+use Prim.Native.Nat.{ℕ, suc, min, ◌+◌, ◌*◌, ◌-◌, ◌≤◌, ◌<◌}
 use mathlib.Core.Path.{◌≡◌, refl, sym, ap, ap₂, ◌∙◌}
-use mathlib.Core.Bool.{Bool, true, false, cond, not, and-false}
+use mathlib.Core.Bool.{Bool, true, false, cond, not, ◌&&◌, and-false}
 use mathlib.Core.List.{List, [], ◌∷◌}
-use native.Mathlib.Numerals.{add-one}
 use native.Mathlib.Omega.{arith}
 use lib.Dec.{leb, ltb}
-use lib.ListN.{length, get_or, take, drop, drop_of_length-le}
-use lib.Seq.{drop-cons}
-use borrow.Author.Tests.{ltb-true, ltb-false, lt-ltb, le-ltb, leb-true, le-leb, lt-leb}
-use Rattle.counts.specs.Text.{is_digit, all_digits, value_from, value, empty}
+use lib.ListN.{length, get_or, take, drop, length-drop}
+use lib.Seq.{take_all}
+use borrow.Author.Tests.{ltb-true, ltb-false, leb-true, le-leb, lt-leb}
+use Rattle.std.proofs.Math.Nat.{min-eq_left, min-eq_right, min-le_left, min-le_right}
+use Rattle.counts.specs.Text.{is_digit, all_digits, value_from, value, empty, is_number}
 use Rattle.counts.proofs.Small.{and_split}
-use Rattle.intake.specs.Positions.{cap, clamp, span, leading, digits_at, number_at}
-use Rattle.intake.specs.declared.text.Digits.{Digits}
-use Rattle.intake.specs.declared.text.Number.TheVariants.{Is, Not}
+use Rattle.intake.specs.Positions.{cap, clamp, span, leading, NumberRead}
 
 pub digit_low : (b : ℕ) → is_digit b ≡ true → 48 ≤ b
 digit_low b h = leb-true 48 b (and_split (leb 48 b) (leb b 57) h).0
 
 -- ---- clamping
-
-pub clamp_small : (v : ℕ) → v ≤ cap → clamp v ≡ v
-clamp_small v h = rw (le-ltb cap v h)
-
-pub clamp_large : (v : ℕ) → cap < v → clamp v ≡ cap
-clamp_large v h = rw (lt-ltb cap v h)
-
-pub clamp_le : (v : ℕ) → clamp v ≤ cap
-clamp_le v = go (ltb cap v) refl
-  where
-    go : (t : Bool) → ltb cap v ≡ t → cond t cap v ≤ cap
-    go true e = omega arith
-    go false e = ltb-false cap v e
 
 clamp_step : (v d : ℕ) → clamp (clamp v * 10 + d) ≡ clamp (v * 10 + d)
 clamp_step v d = go (ltb cap v) refl
@@ -39,28 +24,24 @@ clamp_step v d = go (ltb cap v) refl
     go : (t : Bool) → ltb cap v ≡ t → clamp (clamp v * 10 + d) ≡ clamp (v * 10 + d)
     go true e =
         let h = ltb-true cap v e in
-        rw (clamp_large v h) (clamp_large (cap * 10 + d) (omega arith) ∙ sym (clamp_large (v * 10 + d) (omega arith)))
-    go false e = rw (clamp_small v (ltb-false cap v e))
+        rw (min-eq_left {n = cap} {m = v} (omega arith)) (min-eq_left (omega arith) ∙ sym (min-eq_left (omega arith)))
+    go false e = rw (min-eq_right (ltb-false cap v e))
 
 clamp_value : (v : ℕ) (bs : List ℕ) → clamp (value_from (clamp v) bs) ≡ clamp (value_from v bs)
 unfolding value_from
-clamp_value v [] = go (ltb cap v) refl
-  where
-    go : (t : Bool) → ltb cap v ≡ t → clamp (clamp v) ≡ clamp v
-    go true e = clamp_small (clamp v) (clamp_le v)
-    go false e = clamp_small (clamp v) (clamp_le v)
+clamp_value v [] = min-eq_right (min-le_left cap v)
 clamp_value v (b ∷ bs) =
     sym (clamp_value (clamp v * 10 + (b - 48)) bs) ∙ ap (λ n. clamp (value_from n bs)) (clamp_step v (b - 48)) ∙ clamp_value (v * 10 + (b - 48)) bs
 
 -- ---- the loop over digits
 
-pub record DigitsRead (text : List ℕ) (start v i : ℕ) : Type 0 where
-  pub same : clamp (value_from v (leading (drop i text))) ≡ clamp (value (leading (drop start text)))
-  pub ends : i + span (drop i text) ≡ start + span (drop start text)
+pub record DigitsRead (bs : List ℕ) (v : ℕ) (rest : List ℕ) : Type 0 where
+  pub same : clamp (value_from v (leading rest)) ≡ clamp (value (leading bs))
+  pub ends : drop (span rest) rest ≡ drop (span bs) bs
   pub small : v ≤ cap
 
-pub reading_none : (text : List ℕ) (start : ℕ) → DigitsRead text start 0 start
-reading_none text start = record { same = refl; ends = refl; small = omega arith }
+pub reading_none : (bs : List ℕ) → DigitsRead bs 0 bs
+reading_none bs = record { same = refl; ends = refl; small = omega arith }
 
 span_digit : (b : ℕ) (bs : List ℕ) → is_digit b ≡ true → span (b ∷ bs) ≡ suc (span bs)
 unfolding span
@@ -70,33 +51,52 @@ span_other : (b : ℕ) (bs : List ℕ) → is_digit b ≡ false → span (b ∷ 
 unfolding span
 span_other b bs h = rw h
 
-module _ {text : List ℕ} {start v i : ℕ} (r : DigitsRead text start v i) where
-  pub reading_turn : {w : ℕ} → i < length text → is_digit (get_or text i 0) ≡ true → w ≡ clamp (v * 10 + (get_or text i 0 - 48)) → DigitsRead text start w (i + 1)
+-- a byte in front that is a digit, by its value
+digit_is : (b : ℕ) → 48 ≤ b → b < 58 → is_digit b ≡ true
+digit_is b h k = rw (le-leb 48 b h, le-leb b 57 (omega arith))
+
+digit_not : (b : ℕ) → (48 ≤ b → b < 58 → ⊥) → is_digit b ≡ false
+digit_not b h = go (leb 48 b) refl (leb b 57) refl
+  where
+    go : (t : Bool) → leb 48 b ≡ t → (u : Bool) → leb b 57 ≡ u → (t && u) ≡ false
+    go true e true f = absurd (h (leb-true 48 b e) (let l = leb-true b 57 f in omega arith))
+    go true e false f = refl
+    go false e u f = refl
+
+-- all but the first
+pub rest_of : (b : ℕ) (rest : List ℕ) → take (length (b ∷ rest) - 1) (drop 1 (b ∷ rest)) ≡ rest
+rest_of b rest = let e : suc (length rest) - 1 ≡ length rest = omega arith in rw e (take_all (length rest) rest (omega arith))
+
+pub rest_two : (b c : ℕ) (rest : List ℕ) → take (length (b ∷ c ∷ rest) - 2) (drop 2 (b ∷ c ∷ rest)) ≡ rest
+rest_two b c rest = let e : suc (suc (length rest)) - 2 ≡ length rest = omega arith in rw e (take_all (length rest) rest (omega arith))
+
+-- bytes by their first and the others
+pub front_is : (bs : List ℕ) {b : ℕ} → 1 ≤ length bs → get_or bs 0 0 ≡ b → bs ≡ b ∷ take (length bs - 1) (drop 1 bs)
+front_is [] h e = absurd (omega arith)
+front_is (b ∷ bs) h e = ap₂ ◌∷◌ e (sym (rest_of b bs))
+
+module _ {bs : List ℕ} {v : ℕ} where
+  pub reading_turn : (rest : List ℕ) {d w : ℕ} → DigitsRead bs v rest → 1 ≤ length rest → 48 ≤ get_or rest 0 0 → get_or rest 0 0 < 58 → d ≡ get_or rest 0 0 - 48
+      → w ≡ min cap (v * 10 + d) → DigitsRead bs w (take (length rest - 1) (drop 1 rest))
   unfolding value_from
-  reading_turn {w} h d e =
-      let b = get_or text i 0 in
-      let c : drop i text ≡ b ∷ drop (i + 1) text = rw (add-one i) (drop-cons text i 0 h) in
-      let s : span (drop i text) ≡ suc (span (drop (i + 1) text)) = rw c (span_digit b (drop (i + 1) text) d) in
-      let l : leading (drop i text) ≡ b ∷ leading (drop (i + 1) text) = rw (s, c) in
-      record {
-        same = rw e (clamp_value (v * 10 + (b - 48)) (leading (drop (i + 1) text)) ∙ (rw l at r.same));
-        ends = omega (arith, s, r.ends);
-        small = rw e (clamp_le (v * 10 + (b - 48)));
-      }
+  reading_turn [] r h k l e f = absurd (omega arith)
+  reading_turn (b ∷ rest) r h k l e f =
+      let s = span_digit b rest (digit_is b k l) in
+      rw (f, e, rest_of b rest) (record {
+        same = clamp_value (v * 10 + (b - 48)) (leading rest) ∙ (rw s at r.same);
+        ends = rw s at r.ends;
+        small = min-le_left cap (v * 10 + (b - 48));
+      })
 
   -- where no digit stands the number ends
-  stop : span (drop i text) ≡ 0 → record { value = v; next = i } ≡ digits_at text start
+  stop : {rest : List ℕ} → DigitsRead bs v rest → span rest ≡ 0 → (v ≡ clamp (value (leading bs))) × (rest ≡ drop (span bs) bs)
   unfolding value_from
-  stop s =
-      ap₂ (λ a n. record { value = a; next = n })
-      (sym (clamp_small v r.small) ∙ (rw s at r.same)) (omega (arith, r.ends))
+  stop {rest} r s = (sym (min-eq_right r.small) ∙ (rw s at r.same), rw s at r.ends)
 
-  pub reading_stop : i < length text → is_digit (get_or text i 0) ≡ false → record { value = v; next = i } ≡ digits_at text start
-  reading_stop h d = stop (rw (drop-cons text i 0 h) (span_other (get_or text i 0) (drop (suc i) text) d))
-
-  pub reading_end : length text ≤ i → record { value = v; next = i } ≡ digits_at text start
+  pub reading_end : (rest : List ℕ) → DigitsRead bs v rest → (1 ≤ length rest → 48 ≤ get_or rest 0 0 → get_or rest 0 0 < 58 → ⊥) → (v ≡ clamp (value (leading bs))) × (rest ≡ drop (span bs) bs)
   unfolding span
-  reading_end h = stop (rw (drop_of_length-le text h))
+  reading_end [] r h = stop r refl
+  reading_end (b ∷ rest) r h = stop r (span_other b rest (digit_not b (h (omega arith))))
 
 -- ---- a number's ways out
 
@@ -118,38 +118,42 @@ leading_some (b ∷ bs) h = go (is_digit b) refl
     go true e = refl
     go false e = absurd (h (span_other b bs e))
 
-module _ (limit start : ℕ) (text : List ℕ) {d : Digits} (e : d ≡ digits_at text start) where
-  pub no_digits : d.next ≡ start → Not ≡ number_at limit text start
+span_le : (bs : List ℕ) → span bs ≤ length bs
+unfolding span
+span_le [] = omega arith
+span_le (b ∷ bs) = go (is_digit b) (span_le bs)
+  where
+    go : (t : Bool) → span bs ≤ length bs → cond t (suc (span bs)) 0 ≤ suc (length bs)
+    go true h = omega arith
+    go false h = omega arith
+
+module _ (limit : ℕ) (bs : List ℕ) {v : ℕ} (e : v ≡ clamp (value (leading bs))) {rest : List ℕ} (r : rest ≡ drop (span bs) bs) where
+  -- whether a digit stands in front is whether bytes are behind it
+  left : length rest + span bs ≡ length bs
+  left = rw (r, length-drop) (omega (arith, span_le bs))
+
+  pub no_digits : length rest ≡ length bs → is_number limit (leading bs) ≡ false
   no_digits h =
-      let s : span (drop start text) ≡ 0 = omega (arith, ap (λ x. x.next) e) in
+      let s : span bs ≡ 0 = omega (arith, left) in
       rw s
 
-  pub above_limit : limit < d.value → Not ≡ number_at limit text start
+  pub above_limit : limit < v → is_number limit (leading bs) ≡ false
   above_limit h =
-      let v = value (leading (drop start text)) in
-      let q : limit < clamp v = rw (← ap (λ x. x.value) e) h in
-      let l : leb v limit ≡ false = lt-leb v limit (go v q) in
-      rw (l, and-false (all_digits (leading (drop start text))), and-false (not (empty (leading (drop start text)))))
-    where
-      go : (v : ℕ) → limit < clamp v → limit < v
-      go v q = split (ltb cap v) refl
-        where
-          split : (t : Bool) → ltb cap v ≡ t → limit < v
-          split true q' = let a = ltb-true cap v q' in let b = clamp_large v a in omega arith
-          split false q' = rw (clamp_small v (ltb-false cap v q')) at q
+      let w = value (leading bs) in
+      let l : leb w limit ≡ false = lt-leb w limit (omega (arith, min-le_right cap w, e)) in
+      rw (l, and-false (all_digits (leading bs)), and-false (not (empty (leading bs))))
 
-  pub within_limit : limit < cap → (d.next ≡ start → ⊥) → d.value ≤ limit → Is d.value d.next ≡ number_at limit text start
+  pub within_limit : limit < cap → (length rest ≡ length bs → ⊥) → v ≤ limit → NumberRead limit bs v rest
   within_limit c n h =
-      let v = value (leading (drop start text)) in
-      let q : clamp v ≤ limit = rw (← ap (λ x. x.value) e) h in
-      let m : clamp v ≡ v = go v q in
-      let s : empty (leading (drop start text)) ≡ false = leading_some _ (λ z. n (ap (λ x. x.next) e ∙ (omega (arith, z)))) in
-      let l : leb v limit ≡ true = le-leb v limit (omega arith) in
-      rw (s, leading_digits (drop start text), l) (ap₂ Is (ap (λ x. x.value) e ∙ m) (ap (λ x. x.next) e))
+      let w = value (leading bs) in
+      let m : clamp w ≡ w = go w (omega (arith, e)) in
+      let s : empty (leading bs) ≡ false = leading_some _ (λ z. n (omega (arith, left, z))) in
+      let l : leb w limit ≡ true = le-leb w limit (omega (arith, e)) in
+      record { fits = rw (s, leading_digits bs, l); value = e ∙ m; behind = r }
     where
-      go : (v : ℕ) → clamp v ≤ limit → clamp v ≡ v
-      go v q = split (ltb cap v) refl
+      go : (w : ℕ) → clamp w ≤ limit → clamp w ≡ w
+      go w q = split (ltb cap w) refl
         where
-          split : (t : Bool) → ltb cap v ≡ t → clamp v ≡ v
-          split true q' = let a = ltb-true cap v q' in let b = clamp_large v a in absurd (omega arith)
-          split false q' = clamp_small v (ltb-false cap v q')
+          split : (t : Bool) → ltb cap w ≡ t → clamp w ≡ w
+          split true q' = let a = ltb-true cap w q' in let b = min-eq_left {n = cap} {m = w} (omega arith) in absurd (omega arith)
+          split false q' = min-eq_right (ltb-false cap w q')

@@ -1,40 +1,28 @@
 -- The ways out of the call: the sheet lent, the lines, the result.
-use Prim.Native.Nat.{ℕ, zero, suc, ◌+◌, ◌^◌, ◌≤◌, ◌<◌}
-use mathlib.Core.Path.{◌≡◌, refl, sym, ap, ap₂, subst, ◌∙◌}
+use Prim.Native.Nat.{ℕ, zero, suc, ◌+◌, ◌≤◌}
+use mathlib.Core.Path.{◌≡◌, sym, ap, subst, ◌∙◌}
 use mathlib.Core.Bool.{Bool, true, false, cond, not, ◌&&◌}
 use mathlib.Core.List.{List, [], ◌∷◌}
 use native.Mathlib.Omega.{arith}
-use lib.ListN.{length, get_or, take, replicate, length-map}
+use lib.ListN.{length, length-map}
+use Rattle.std.specs.Prelude.{All, IfSome}
 use Rattle.sheet.specs.Sheet.{largest_sum, Lift, lifts, sheet_of}
-use Rattle.reply.specs.Reply.{numbered, replied, of_refusal, unless_refused}
-use Rattle.reply.specs.declared.Reply.{Reply}
+use Rattle.reply.specs.Reply.{numbered, replied, of_refusal}
 use Rattle.reply.proofs.Replies.{left}
 use Rattle.probability.specs.Among.{among}
-use Rattle.sheet.specs.Reading.{Reading, faulty, of_words, Legible, reading_of}
-use Rattle.tally.specs.Verdict.{refused, fits, crowded, unless_faulty, verdict, verdict_of, of_verdict}
+use Rattle.sheet.specs.Reading.{Reading, faulty, of_words, Legible}
+use Rattle.tally.specs.Verdict.{refused, fits, crowded, unless_faulty, verdict}
 use Rattle.reply.specs.Refusal.{refusal_of}
 use Rattle.sheet.specs.Law.{AllWellFormed}
 use Rattle.sheet.proofs.Trips.{read_theorem}
-use Rattle.sheet.proofs.Legibility.{legible_words, words_legible, AboveWord, above_of_words}
+use Rattle.sheet.proofs.Legibility.{words_legible, AboveWord, above_of_words}
 use Rattle.tally.proofs.Verdicts.{decided}
-use Rattle.sheet.specs.declared.Sheet.{Sheet}
 use Rattle.reply.specs.declared.Refusal.{Refusal}
-use Rattle.tally.specs.declared.Checked.{Checked}
-use Rattle.tally.specs.declared.Checked.TheVariants.{Refused, Fits}
-use Rattle.sheet.specs.declared.Judged.{Judged}
-use Rattle.sheet.specs.declared.Judged.TheVariants.{Faulty, Sound}
 use Rattle.counts.specs.Text.{lines, CountLine, counted, malformed, count_line}
 use Rattle.counts.specs.Counts.{at_line, lines_from, numbers_of, of_lines, renewed, counts_verdict, counts_reply, counts_output}
-use Rattle.intake.specs.Positions.{RisingAbove, LiftNumbers, slot, slots, AllTaken, LinesAnswered, lifts_with, sheet_with}
-use Rattle.intake.specs.declared.lines.Lines.{Lines}
-use Rattle.intake.specs.declared.lines.Lines.TheVariants.{Faulty as FaultyLine, All}
-use Rattle.intake.proofs.Slots.{slot_small, lifts_slots}
-
--- room that is all zeros
-pub zeros : (m n : ℕ) → n ≤ m → take {A = ℕ} n (replicate m 0) ≡ replicate n 0
-zeros m zero h = refl
-zeros zero (suc n) h = absurd (omega arith)
-zeros (suc m) (suc n) h = ap (λ vs. 0 ∷ vs) (zeros m n (omega arith))
+use Rattle.intake.specs.Positions.{RisingAbove, slot_numbers, slot, slots, AllTaken, lifts_with, sheet_with}
+use Rattle.intake.specs.declared.lines.Slot.{Slot}
+use Rattle.intake.proofs.Slots.{numbers_slots, slot_small, lifts_slots}
 
 -- ---- the lifts of a legible sheet
 
@@ -45,28 +33,6 @@ numbers_rising : (n : ℕ) (ls : List Lift) → AllWellFormed n ls → RisingAbo
 unfolding AllWellFormed RisingAbove
 numbers_rising n [] h = tt
 numbers_rising n (l ∷ ls) h = (h.0.rises, numbers_rising l.number ls h.1)
-
-numbers_small : (n : ℕ) (ls : List Lift) → AllWellFormed n ls → (k : ℕ) → get_or (numbers_of ls) k 0 < 2 ^ 32
-unfolding AllWellFormed
-numbers_small n [] h k = omega arith
-numbers_small n (l ∷ ls) h zero = omega (arith, h.0.payload)
-numbers_small n (l ∷ ls) h (suc k) = numbers_small l.number ls h.1 k
-
-pub numbers : {ws : List ℕ} → Legible ws → LiftNumbers (numbers_of (lifts ws))
-numbers {ws} l =
-    let t = (read_theorem ws l.read).well_formed in
-    record { rising = numbers_rising 0 (lifts ws) t.listed; few = rw (length-map (lifts ws) (λ l. l.number)) t.few; small = numbers_small 0 (lifts ws) t.listed }
-
--- ---- the result
-
-module _ (n : ℕ) (old ws : List ℕ) {r : Checked} (h : verdict_of r ≡ verdict ws) where
-  pub finish_refused : {x : Refusal} → r ≡ Refused x → (of_refusal (refusal_of x) ≡ of_verdict (verdict ws) (λ _. replied n 0)) × (old ≡ unless_refused (of_verdict (verdict ws) (λ _. replied n 0)) old ws)
-  finish_refused {x} e =
-      let v : refused (refusal_of x) ≡ verdict ws = sym (ap verdict_of e) ∙ h in
-      left old ws (λ z. omega (arith, (decided crowded ws).above (refusal_of x) (sym v), z)) (rw (← v))
-
-  pub finish_fits : {out : List ℕ} {s : Sheet} → r ≡ Fits s → out ≡ ws → (replied n 0 ≡ of_verdict (verdict ws) (λ _. replied n 0)) × (out ≡ unless_refused (of_verdict (verdict ws) (λ _. replied n 0)) old ws)
-  finish_fits {out} {s} e q = let v : fits s.lifts s.rounds ≡ verdict ws = sym (ap verdict_of e) ∙ h in (rw (← v), rw (← v) q)
 
 -- ---- the lines
 
@@ -89,48 +55,54 @@ behind_words : (ws text : List ℕ) → Legible ws → unless_faulty (of_lines (
 unfolding counts_verdict
 behind_words ws text l = ap (λ r. unless_faulty r (unless_faulty (of_lines (lifts ws) (lines text)) (verdict (renewed ws text)))) (words_legible l)
 
-module _ (ws text ns measures : List ℕ) (l : Legible ws) {r : Lines} (e : ns ≡ numbers_of (lifts ws)) (g : LinesAnswered ns (lines text) r measures) where
-  pub at_line_lem : {x : Refusal} → r ≡ FaultyLine x → (of_refusal (refusal_of x) ≡ counts_reply ws text) × (ws ≡ counts_output ws text)
-  at_line_lem {x} q =
-      let t = rw (q, e) at g in
+module _ (ws text : List ℕ) {ss : List Slot} (l : Legible ws) (e : ss ≡ slots (numbers_of (lifts ws)) []) where
+  named : slot_numbers ss ≡ numbers_of (lifts ws)
+  named = ap slot_numbers e ∙ numbers_slots (numbers_of (lifts ws)) []
+
+  pub rising : RisingAbove 0 (slot_numbers ss)
+  rising = subst (RisingAbove 0) (sym named) (numbers_rising 0 (lifts ws) (read_theorem ws l.read).well_formed.listed)
+
+  pub no_line : ss ≡ slots (slot_numbers ss) []
+  no_line = e ∙ ap (λ ns. slots ns []) (sym named)
+
+  pub at_line_lem : (x : Refusal) → lines_from (slot_numbers ss) [] 1 (lines text) ≡ faulty (refusal_of x) → (of_refusal (refusal_of x) ≡ counts_reply ws text) × (ws ≡ counts_output ws text)
+  at_line_lem x g =
+      let t = rw named at g in
       let w = rw t at (behind_words ws text l) in
       left ws (renewed ws text) (λ z. omega (arith, subst AboveWord t (above_lines (numbers_of (lifts ws)) [] 1 (lines text)), z)) (rw (← w))
 
-  module _ {n : ℕ} (q : r ≡ All n) where
-    all_taken : AllTaken ns (lines text) n measures
-    all_taken = rw q at g
+  module _ {n : ℕ} {taken : List Slot} (t : AllTaken (slot_numbers ss) (lines text) n taken) where
+    is_slots : taken ≡ slots (numbers_of (lifts ws)) (lines text)
+    is_slots = t.filled ∙ ap (λ ns. slots ns (lines text)) named
 
-    sheet_with_lem : sheet_with ws measures ≡ renewed ws text
-    sheet_with_lem = ap sheet_of (ap (lifts_with (lifts ws)) (all_taken.filled ∙ ap (λ m. slots m (lines text)) e) ∙ lifts_slots (lines text) (lifts ws))
+    pub taken_long : length taken ≡ length (lifts ws)
+    taken_long = ap length is_slots ∙ length-map (numbers_of (lifts ws)) (slot (lines text)) ∙ length-map (lifts ws) (λ l. l.number)
 
-    answered : verdict (sheet_with ws measures) ≡ counts_verdict ws text
-    answered = ap verdict sheet_with_lem ∙ (rw (rw e at all_taken.sound) at (behind_words ws text l))
-
-    pub at_end : {y : Reply} {out : List ℕ} → (y ≡ of_verdict (verdict (sheet_with ws measures)) (λ _. replied n 0)) × (out ≡ unless_refused (of_verdict (verdict (sheet_with ws measures)) (λ _. replied n 0)) ws (sheet_with ws measures))
-        → (y ≡ counts_reply ws text) × (out ≡ counts_output ws text)
-    at_end (a, b) =
-        let e = ap₂ (λ k v. of_verdict v (λ _. replied k 0)) all_taken.many answered in
-        (a ∙ e, b ∙ ap₂ (λ y us. unless_refused y ws us) e sheet_with_lem)
-
-    pub end_long : length measures ≡ length (lifts ws)
-    end_long = ap length all_taken.filled ∙ length-map ns (slot (lines text)) ∙ ap length e ∙ length-map (lifts ws) (λ l. l.number)
-
-    pub end_small : (k : ℕ) → get_or measures k 0 ≤ largest_sum + 1
-    end_small k = rw all_taken.filled (small ns k)
+    pub taken_small : All (λ s. IfSome s.measure (λ m. m ≤ largest_sum)) taken
+    taken_small = rw is_slots (all_small (numbers_of (lifts ws)))
       where
-        small : (ns : List ℕ) (k : ℕ) → get_or (slots ns (lines text)) k 0 ≤ largest_sum + 1
-        small [] k = omega arith
-        small (n ∷ ns) zero = slot_small (lines text) n
-        small (n ∷ ns) (suc k) = small ns k
+        all_small : (ns : List ℕ) → All (λ s. IfSome s.measure (λ m. m ≤ largest_sum)) (slots ns (lines text))
+        all_small [] k d h = absurd (omega arith)
+        all_small (n ∷ ns) zero d h = slot_small (lines text) n
+        all_small (n ∷ ns) (suc k) d h = all_small ns k d (omega arith)
+
+    sheet_with_lem : sheet_with ws taken ≡ renewed ws text
+    sheet_with_lem = ap sheet_of (ap (lifts_with (lifts ws)) is_slots ∙ lifts_slots (lines text) (lifts ws))
+
+    answered : verdict (sheet_with ws taken) ≡ counts_verdict ws text
+    answered = ap verdict sheet_with_lem ∙ (rw (rw named at t.sound) at (behind_words ws text l))
+
+    -- the result's verdict is that of the call
+    pub at_refused : (x : Refusal) → refused (refusal_of x) ≡ verdict (sheet_with ws taken) → (of_refusal (refusal_of x) ≡ counts_reply ws text) × (ws ≡ counts_output ws text)
+    at_refused x v =
+        let w = v ∙ answered in
+        left ws (renewed ws text) (λ z. omega (arith, (decided crowded (sheet_with ws taken)).above (refusal_of x) (sym v), z)) (rw (← w))
+
+    pub at_fits : {a b : ℕ} → fits a b ≡ verdict (sheet_with ws taken) → (replied n 0 ≡ counts_reply ws text) × (sheet_with ws taken ≡ counts_output ws text)
+    at_fits v = let w = v ∙ answered in (rw (← w, t.many), rw (← w) sheet_with_lem)
 
 -- ---- the sheet lent
 
-module _ (ws text : List ℕ) {r : Judged} (h : reading_of r ≡ of_words ws) where
-  pub at_word : {x : Refusal} → r ≡ Faulty x → (of_refusal (refusal_of x) ≡ counts_reply ws text) × (ws ≡ counts_output ws text)
-  unfolding counts_verdict
-  at_word {x} e =
-      let v : faulty (refusal_of x) ≡ of_words ws = sym (ap reading_of e) ∙ h in
-      left ws (renewed ws text) (λ z. omega (arith, subst AboveWord (sym v) (above_of_words ws), z)) (rw (← v))
-
-  pub at_legible : r ≡ Sound → Legible ws
-  at_legible e = legible_words (sym (sym (ap reading_of e) ∙ h))
+pub at_word : (ws text : List ℕ) (x : Refusal) → faulty (refusal_of x) ≡ of_words ws → (of_refusal (refusal_of x) ≡ counts_reply ws text) × (ws ≡ counts_output ws text)
+unfolding counts_verdict
+at_word ws text x v = left ws (renewed ws text) (λ z. omega (arith, subst AboveWord (sym v) (above_of_words ws), z)) (rw (← v))

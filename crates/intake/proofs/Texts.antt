@@ -1,24 +1,17 @@
 -- A line read field by field is the line split off and then read: digits belong to the line, what ends them is a comma, an ending, or no digit.
-use Prim.Native.Nat.{ℕ, suc, ◌+◌, ◌≤◌, ◌<◌}
-use mathlib.Core.Path.{◌≡◌, refl, sym, ap, ◌∙◌}
+use Prim.Native.Nat.{ℕ, suc, ◌+◌, ◌-◌, ◌≤◌, ◌<◌}
+use mathlib.Core.Path.{◌≡◌, refl, sym, ap, ap₂, ◌∙◌}
 use mathlib.Core.Bool.{Bool, true, false, cond, not, ◌&&◌, and-false, false≢true}
 use mathlib.Core.Logic.{◌⊎◌, inl, inr}
 use mathlib.Core.List.{List, [], ◌∷◌, ◌++◌, append-nil}
-use native.Mathlib.Nat.{add-zero}
-use native.Mathlib.Numerals.{add-one}
 use native.Mathlib.Omega.{arith}
 use lib.Dec.{eqb}
-use lib.ListN.{get_or-eq_default, length, get_or, take, drop, drop_of_length-le}
-use lib.Seq.{drop-cons, drop-drop, get_or-drop}
-use borrow.Author.Tests.{eq-eqb, ne_eqb, not-true}
-use Rattle.tally.specs.declared.Found.{Found}
-use Rattle.tally.specs.declared.Found.TheVariants.{At, Nothing}
+use lib.ListN.{length, get_or, take, drop}
+use lib.Seq.{drop-drop}
+use borrow.Author.Tests.{eqb-true, eq-eqb, ne_eqb, not-true}
 use Rattle.counts.specs.Text.{LF, CR, comma, ahead, ending_cr, lines, before_comma, behind_comma, is_digit, all_digits, value, empty, is_number, largest_lift, largest_count, counted, malformed, count_line}
-use Rattle.intake.specs.Positions.{span, leading, number_at, first_line, extent, ending_at, line_at}
-use Rattle.intake.specs.declared.text.Number.{Number}
-use Rattle.intake.specs.declared.text.Number.TheVariants.{Is, Not}
-use Rattle.intake.specs.declared.text.Line.TheVariants.{Entry as EntryLine, Malformed}
-use Rattle.intake.proofs.Numbers.{digit_low}
+use Rattle.intake.specs.Positions.{span, leading, first_line, extent, NumberRead, EndingRead, LineRead}
+use Rattle.intake.proofs.Numbers.{digit_low, front_is, rest_of, rest_two}
 
 -- ---- the first line of a text
 
@@ -212,174 +205,99 @@ whole : (l : List ℕ) {a b : List ℕ} → before_comma l ≡ a → behind_comm
 unfolding count_line
 whole l {a} {b} p q h k = rw (p, q, h, k)
 
--- ---- the answers taken apart
-
-module _ (limit : ℕ) (text : List ℕ) (start : ℕ) where
-  number_is : {a b : ℕ} {x : Number} → x ≡ number_at limit text start → x ≡ Is a b
-      → (is_number limit (leading (drop start text)) ≡ true) × (a ≡ value (leading (drop start text))) × (b ≡ start + span (drop start text))
-  number_is {a} {b} {x} h e = go (is_number limit (leading (drop start text))) (value (leading (drop start text))) (start + span (drop start text)) h
-    where
-      go : (t : Bool) (v n : ℕ) → x ≡ cond t (Is v n) Not → (t ≡ true) × (a ≡ v) × (b ≡ n)
-      go true v n h = (refl, cc, cc)
-      go false v n h = (cc, cc, cc)
-
-  number_not : {x : Number} → x ≡ number_at limit text start → x ≡ Not → is_number limit (leading (drop start text)) ≡ false
-  number_not {x} h e = go (is_number limit (leading (drop start text))) (value (leading (drop start text))) (start + span (drop start text)) h
-    where
-      go : (t : Bool) (v n : ℕ) → x ≡ cond t (Is v n) Not → t ≡ false
-      go true v n h = cc
-      go false v n h = refl
-
-module _ (text : List ℕ) (start : ℕ) where
-  ending_at_lem : {a : ℕ} {x : Found} → x ≡ ending_at text start → x ≡ At a → (empty (first_line (drop start text)) ≡ true) × (a ≡ start + extent (drop start text))
-  ending_at_lem {a} {x} h e = go (empty (first_line (drop start text))) (start + extent (drop start text)) h
-    where
-      go : (t : Bool) (n : ℕ) → x ≡ cond t (At n) Nothing → (t ≡ true) × (a ≡ n)
-      go true n h = (refl, cc)
-      go false n h = (cc, cc)
-
-  ending_none : {x : Found} → x ≡ ending_at text start → x ≡ Nothing → empty (first_line (drop start text)) ≡ false
-  ending_none {x} h e = go (empty (first_line (drop start text))) (start + extent (drop start text)) h
-    where
-      go : (t : Bool) (n : ℕ) → x ≡ cond t (At n) Nothing → t ≡ false
-      go true n h = cc
-      go false n h = refl
-
 -- ---- the ways out of a line
-
-said : (text : List ℕ) (start : ℕ) → count_line (first_line (drop start text)) ≡ malformed → Malformed ≡ line_at text start
-said text start e = rw e
-
--- a text from behind its first digits
-rest_is : (text : List ℕ) (start : ℕ) → drop (span (drop start text)) (drop start text) ≡ drop (start + span (drop start text)) text
-rest_is text start = drop-drop (span (drop start text)) start text
-
-rest_head : (text : List ℕ) (start n : ℕ) → n ≡ start + span (drop start text) → get_or (drop (span (drop start text)) (drop start text)) 0 0 ≡ get_or text n 0
-rest_head text start n e = rw (rest_is text start, ← e, get_or-drop n text 0 0, add-zero)
 
 empty_line : (l : List ℕ) → empty l ≡ true → l ≡ []
 empty_line [] h = refl
 empty_line (b ∷ bs) h = absurd (false≢true h)
 
-module _ (text : List ℕ) (start : ℕ) {x : Number} (h : x ≡ number_at largest_lift text start) where
-  pub line_no_lift : x ≡ Not → Malformed ≡ line_at text start
-  line_no_lift e =
-      let bs = drop start text in
-      said text start (no_lift_lem (first_line bs) (lift_field bs ∙ rw (number_not largest_lift text start h e) (cond_false (empty (before_comma (first_line (drop (span bs) bs)))))))
+pub line_no_lift : (bs : List ℕ) → is_number largest_lift (leading bs) ≡ false → count_line (first_line bs) ≡ malformed
+line_no_lift bs e = no_lift_lem (first_line bs) (lift_field bs ∙ rw e (cond_false (empty (before_comma (first_line (drop (span bs) bs))))))
 
-  module _ {lift at' : ℕ} (e : x ≡ Is lift at') where
-    pub line_no_comma : (get_or text at' 0 ≡ comma → ⊥) → Malformed ≡ line_at text start
-    line_no_comma n = go (no_comma (first_line rest) (λ z. n (sym (rest_head text start at' (number_is largest_lift text start h e).2) ∙ head z)))
-      where
-        rest : List ℕ
-        rest = drop (span (drop start text)) (drop start text)
+apart : (bs : List ℕ) → (1 ≤ length bs → get_or bs 0 0 ≡ comma → ⊥) → get_or bs 0 0 ≡ comma → ⊥
+apart [] n h = let z : ◌≡◌ {A = ℕ} 0 comma = h in omega arith
+apart (b ∷ bs) n h = n (omega arith) h
 
-        head : get_or (first_line rest) 0 0 ≡ comma → get_or rest 0 0 ≡ comma
-        head z = pick (line_head rest)
-          where
-            pick : (first_line rest ≡ []) ⊎ (get_or (first_line rest) 0 0 ≡ get_or rest 0 0) → get_or rest 0 0 ≡ comma
-            pick (inl q) = let y : ◌≡◌ {A = ℕ} 0 comma = rw q at z in absurd (omega arith)
-            pick (inr q) = sym q ∙ z
+module _ {bs : List ℕ} {lift : ℕ} {rest : List ℕ} (e : NumberRead largest_lift bs lift rest) where
+  pub line_no_comma : (1 ≤ length rest → get_or rest 0 0 ≡ comma → ⊥) → count_line (first_line bs) ≡ malformed
+  line_no_comma n = go (no_comma (first_line rest) (λ z. apart rest n (head z)))
+    where
+      head : get_or (first_line rest) 0 0 ≡ comma → get_or rest 0 0 ≡ comma
+      head z = pick (line_head rest)
+        where
+          pick : (first_line rest ≡ []) ⊎ (get_or (first_line rest) 0 0 ≡ get_or rest 0 0) → get_or rest 0 0 ≡ comma
+          pick (inl q) = let y : ◌≡◌ {A = ℕ} 0 comma = rw q at z in absurd (omega arith)
+          pick (inr q) = sym q ∙ z
 
-        go : (empty (before_comma (first_line rest)) ≡ false) ⊎ (behind_comma (first_line rest) ≡ []) → Malformed ≡ line_at text start
-        go (inl q) = said text start (no_lift_lem (first_line (drop start text)) (lift_field (drop start text) ∙ rw q))
-        go (inr q) = said text start (no_count (first_line (drop start text)) (rw (count_field (drop start text), q)))
+      go : (empty (before_comma (first_line rest)) ≡ false) ⊎ (behind_comma (first_line rest) ≡ []) → count_line (first_line bs) ≡ malformed
+      go (inl q) = no_lift_lem (first_line bs) (lift_field bs ∙ rw (← e.behind, q))
+      go (inr q) = no_count (first_line bs) (rw (count_field bs, ← e.behind, q))
 
-    pub line_short : length text ≤ at' → Malformed ≡ line_at text start
-    line_short l = line_no_comma (λ z. let y : ◌≡◌ {A = ℕ} 0 comma = sym (get_or-eq_default text 0 l) ∙ z in omega arith)
+  module _ (room : 1 ≤ length rest) (q : get_or rest 0 0 ≡ comma) where
+    -- what is behind the comma
+    abbrev cs : List ℕ
+    cs = take (length rest - 1) (drop 1 rest)
 
-    module _ (room : at' < length text) (q : get_or text at' 0 ≡ comma) where
-      rest_comma : drop (span (drop start text)) (drop start text) ≡ comma ∷ drop (at' + 1) text
-      rest_comma = rw (rest_is text start, ← (number_is largest_lift text start h e).2, drop-cons text at' 0 room, q, add-one at')
+    rest_comma : drop (span bs) bs ≡ comma ∷ cs
+    rest_comma = sym e.behind ∙ front_is rest room q
 
-      behind_comma_lem : behind_comma (first_line (drop start text)) ≡ first_line (drop (at' + 1) text)
-      unfolding behind_comma
-      behind_comma_lem = rw (count_field (drop start text), rest_comma, line_next comma (drop (at' + 1) text))
+    behind_comma_lem : behind_comma (first_line bs) ≡ first_line cs
+    unfolding behind_comma
+    behind_comma_lem = rw (count_field bs, rest_comma, line_next comma cs)
 
-      before_comma_lem : before_comma (first_line (drop start text)) ≡ leading (drop start text)
-      unfolding before_comma
-      before_comma_lem =
-          rw (line_leading (drop start text), before_leading (drop start text) (first_line (drop (span (drop start text)) (drop start text))), rest_comma, line_next comma (drop (at' + 1) text))
-          (append-nil _)
+    before_comma_lem : before_comma (first_line bs) ≡ leading bs
+    unfolding before_comma
+    before_comma_lem =
+        rw (line_leading bs, before_leading bs (first_line (drop (span bs) bs)), rest_comma, line_next comma cs)
+        (append-nil _)
 
-      module _ {y : Number} (g : y ≡ number_at largest_count text (at' + 1)) where
-        pub line_no_count : y ≡ Not → Malformed ≡ line_at text start
-        line_no_count f =
-            let cs = drop (at' + 1) text in
-            said text start (no_count _ (rw behind_comma_lem (count_number cs ∙ rw (number_not largest_count text (at' + 1) g f) (cond_false (empty (first_line (drop (span cs) cs)))))))
+    pub line_no_count : is_number largest_count (leading cs) ≡ false → count_line (first_line bs) ≡ malformed
+    line_no_count f = no_count _ (rw behind_comma_lem (count_number cs ∙ rw f (cond_false (empty (first_line (drop (span cs) cs))))))
 
-        module _ {count end : ℕ} (f : y ≡ Is count end) where
-          rest_end : drop (span (drop (at' + 1) text)) (drop (at' + 1) text) ≡ drop end text
-          rest_end = rw (rest_is text (at' + 1), ← (number_is largest_count text (at' + 1) g f).2)
+    module _ {count : ℕ} {end : List ℕ} (f : NumberRead largest_count cs count end) where
+      pub line_no_ending : empty (first_line end) ≡ false → count_line (first_line bs) ≡ malformed
+      line_no_ending w = no_count _ (rw behind_comma_lem (count_number cs ∙ rw (← f.behind, w)))
 
-          module _ {z : Found} (k : z ≡ ending_at text end) where
-            pub line_no_ending : z ≡ Nothing → Malformed ≡ line_at text start
-            line_no_ending w =
-                said text start (no_count _ (rw behind_comma_lem (count_number (drop (at' + 1) text) ∙ rw (rest_end, ending_none text end k w))))
-
-            pub line_whole : {next : ℕ} → z ≡ At next → EntryLine lift count next ≡ line_at text start
-            line_whole {next} w =
-                let cs = drop (at' + 1) text in
-                let o = ending_at_lem text end k w in
-                let a = number_is largest_lift text start h e in
-                let b = number_is largest_count text (at' + 1) g f in
-                let l : first_line cs ≡ leading cs = line_leading cs ∙ rw (rest_end, empty_line (first_line (drop end text)) o.0) (append-nil (leading cs)) in
-                let s : extent (drop start text) ≡ span (drop start text) + suc (span cs + extent (drop end text)) =
-                extent_leading (drop start text) ∙ rw (rest_comma) (ap (λ n. span (drop start text) + n) (extent_comma cs ∙ ap suc (extent_leading cs ∙ rw rest_end))) in
-                let c : count_line (first_line (drop start text)) ≡ counted (value (leading (drop start text))) (value (leading cs)) =
-                whole (first_line (drop start text)) (before_comma_lem) (behind_comma_lem ∙ l) a.0 b.0 in
-                rw c (three a.1 b.1 (omega (arith, s, o.1, a.2, b.2)))
-              where
-                extent_comma : (bs : List ℕ) → extent (comma ∷ bs) ≡ suc (extent bs)
-                extent_comma bs = comma_extent bs
-
-                three : {a a' b b' c c' : ℕ} → a ≡ a' → b ≡ b' → c ≡ c' → EntryLine a b c ≡ EntryLine a' b' c'
-                three p q r = cc
+      pub line_whole : {behind : List ℕ} → EndingRead end behind → LineRead bs (record { lift = lift; count = count }) behind
+      line_whole {behind} w =
+          let l : first_line cs ≡ leading cs = line_leading cs ∙ rw (← f.behind, empty_line (first_line end) w.ends) (append-nil (leading cs)) in
+          let s : extent bs ≡ span bs + suc (span cs + extent end) =
+          extent_leading bs ∙ rw (rest_comma) (ap (λ n. span bs + n) (comma_extent cs ∙ ap suc (extent_leading cs ∙ rw (← f.behind)))) in
+          record {
+            says = whole (first_line bs) before_comma_lem (behind_comma_lem ∙ l) e.fits f.fits ∙ ap₂ counted (sym e.value) (sym f.value);
+            behind = w.behind ∙ ap (drop (extent end)) f.behind ∙ drop-drop (extent end) (span cs) cs ∙ past s;
+          }
+        where
+          past : extent bs ≡ span bs + suc (span cs + extent end) → drop (span cs + extent end) cs ≡ drop (extent bs) bs
+          past s = rw (s, ← drop-drop (suc (span cs + extent end)) (span bs) bs, rest_comma)
 
 -- ---- the ways out of an ending
 
-ends_lf : (b : ℕ) (bs : List ℕ) → b ≡ LF → (empty (first_line (b ∷ bs)) ≡ true) × (extent (b ∷ bs) ≡ 1)
+pub ending_past : (bs : List ℕ) → length bs < 1 → EndingRead bs bs
 unfolding extent
-ends_lf b bs h = (rw (line_next b bs, eq-eqb b LF h), rw (eq-eqb b LF h))
+ending_past [] h = record { ends = rw line_none; behind = refl }
+ending_past (b ∷ bs) h = absurd (omega arith)
 
-ends_crlf : (b : ℕ) (bs : List ℕ) → b ≡ CR → get_or bs 0 0 ≡ LF → (empty (first_line (b ∷ bs)) ≡ true) × (extent (b ∷ bs) ≡ 2)
+pub ending_lf : (bs : List ℕ) → 1 ≤ length bs → get_or bs 0 0 ≡ LF → EndingRead bs (take (length bs - 1) (drop 1 bs))
 unfolding extent
-ends_crlf b [] h k = let z : ◌≡◌ {A = ℕ} 0 LF = k in absurd (omega arith)
-ends_crlf b (c ∷ cs) h k = (rw (line_next b (c ∷ cs), line_next c cs, h, k), rw (h, k))
+ending_lf [] h e = absurd (omega arith)
+ending_lf (b ∷ bs) h e = record { ends = rw (line_next b bs, eq-eqb b LF e); behind = rest_of b bs ∙ rw (eq-eqb b LF e) }
 
-no_end : (b : ℕ) (bs : List ℕ) → (b ≡ LF → ⊥) → ending_cr b bs ≡ false → empty (first_line (b ∷ bs)) ≡ false
-no_end b bs h k = rw (line_next b bs, ne_eqb b LF h, k)
+pub ending_crlf : (bs : List ℕ) → 2 ≤ length bs → get_or bs 0 0 ≡ CR → get_or bs 1 0 ≡ LF → EndingRead bs (take (length bs - 2) (drop 2 bs))
+unfolding extent
+ending_crlf [] h e q = absurd (omega arith)
+ending_crlf (b ∷ []) h e q = absurd (omega arith)
+ending_crlf (b ∷ c ∷ bs) h e q = record { ends = rw (line_next b (c ∷ bs), line_next c bs, e, q); behind = rw (rest_two b c bs, e, q) }
 
-module _ (text : List ℕ) (i : ℕ) where
-  pub ending_past : length text ≤ i → At i ≡ ending_at text i
-  unfolding extent
-  ending_past h = rw (drop_of_length-le text h, line_none) (ap At (omega arith))
-
-  module _ (h : i < length text) where
-    ended : {n : ℕ} → (empty (first_line (get_or text i 0 ∷ drop (suc i) text)) ≡ true) × (extent (get_or text i 0 ∷ drop (suc i) text) ≡ n) → At (i + n) ≡ ending_at text i
-    ended {n} (e, q) = rw (drop-cons text i 0 h, e, q)
-
-    unended : empty (first_line (get_or text i 0 ∷ drop (suc i) text)) ≡ false → Nothing ≡ ending_at text i
-    unended e = rw (drop-cons text i 0 h, e)
-
-    pub ending_lf : get_or text i 0 ≡ LF → At (i + 1) ≡ ending_at text i
-    ending_lf e = ended (ends_lf _ _ e)
-
-    module _ (n : get_or text i 0 ≡ LF → ⊥) where
-      pub ending_other : (get_or text i 0 ≡ CR → ⊥) → Nothing ≡ ending_at text i
-      ending_other c = unended (no_end _ _ n (rw (ne_eqb (get_or text i 0) CR c)))
-
-      after : get_or (drop (suc i) text) 0 0 ≡ get_or text (i + 1) 0
-      after = rw (get_or-drop (suc i) text 0 0, add-zero, add-one i)
-
-      module _ (c : get_or text i 0 ≡ CR) where
-        pub ending_cr_lem : length text ≤ i + 1 → Nothing ≡ ending_at text i
-        ending_cr_lem l =
-            let k : drop (suc i) text ≡ [] = drop_of_length-le text {i = suc i} (omega arith) in
-            unended (no_end _ _ n (rw k (and-false (eqb (get_or text i 0) CR))))
-
-        pub ending_cr_other : (get_or text (i + 1) 0 ≡ LF → ⊥) → Nothing ≡ ending_at text i
-        ending_cr_other l = unended (no_end _ _ n (rw (after, ne_eqb (get_or text (i + 1) 0) LF l) (and-false (eqb (get_or text i 0) CR))))
-
-        pub ending_crlf : get_or text (i + 1) 0 ≡ LF → At (i + 2) ≡ ending_at text i
-        ending_crlf l = ended (ends_crlf _ _ c (after ∙ l))
+pub ending_none : (bs : List ℕ) → 1 ≤ length bs → (get_or bs 0 0 ≡ LF → ⊥) → (2 ≤ length bs → get_or bs 0 0 ≡ CR → get_or bs 1 0 ≡ LF → ⊥) → empty (first_line bs) ≡ false
+ending_none [] h n k = absurd (omega arith)
+ending_none (b ∷ bs) h n k = rw (line_next b bs, ne_eqb b LF n, go (eqb b CR) refl (eqb (get_or bs 0 0) LF) refl)
+  where
+    go : (t : Bool) → eqb b CR ≡ t → (u : Bool) → eqb (get_or bs 0 0) LF ≡ u → (t && u) ≡ false
+    go true e true f = absurd (k (room bs (eqb-true (get_or bs 0 0) LF f)) (eqb-true b CR e) (eqb-true (get_or bs 0 0) LF f))
+      where
+        room : (bs : List ℕ) → get_or bs 0 0 ≡ LF → 2 ≤ length (b ∷ bs)
+        room [] z = let y : ◌≡◌ {A = ℕ} 0 LF = z in omega arith
+        room (c ∷ cs) z = omega arith
+    go true e false f = refl
+    go false e u f = refl

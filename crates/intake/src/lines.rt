@@ -1,98 +1,48 @@
 // The lines of the centre's text one by one: each names a lift of the sheet, and gives it a count.
-ghost use Rattle.std.specs.Prelude.{◌≡◌, ◌+◌, ◌^◌, ◌≤◌, ◌<◌, leb, length, replicate};
-ghost use Rattle.probability.specs.Sum.{indicator};
-ghost use Rattle.sheet.specs.Sheet.{most_lifts};
-ghost use Rattle.counts.specs.Text.{lines, largest_count};
-ghost use Rattle.counts.specs.Counts.{hundreds as hundreds_of};
-ghost use Rattle.intake.specs.Positions.{LiftNumbers, cut_at, Located, LinesAnswered};
+ghost use Rattle.std.specs.Prelude.{◌≡◌, ◌<◌, false, [], length, MatchOption, MatchResult, HoldsAt};
+ghost use Rattle.probability.specs.Among.{among};
+ghost use Rattle.reply.specs.Refusal.{refusal_of};
+ghost use Rattle.sheet.specs.Reading.{faulty};
+ghost use Rattle.counts.specs.Text.{lines};
+ghost use Rattle.counts.specs.Counts.{lines_from};
+ghost use Rattle.intake.specs.Positions.{RisingAbove, slot_numbers, slots as slots_of, AllTaken};
 
-use crate::text::{Line, read_line};
+use crate::text::read_line;
 use reply::Refusal;
-use sheet::Sheet;
-use tally::Found;
 
-// The answer to all lines: the refusal of the first faulty one, or how many there are.
-#[derive(Drop)]
-pub enum Lines {
-    Faulty(Refusal),
-    All(usize),
+// A lift's number, and the new measure that a line gives it, if one does.
+#[derive(Clone, Copy)]
+pub struct Slot {
+    pub number: u32,
+    pub measure: Option<u32>,
 }
 
-// A count in hundreds, rounded up.
-fn hundreds(count: u64) -> u64
-    requires { count ≤ largest_count }
-    ensures { result ≡ hundreds_of count }
+// Which slot is that of a lift, among slots whose numbers rise.
+fn find(slots: &[Slot], lift: u32) -> Option<usize>
+    requires { RisingAbove 0 (slot_numbers slots.now) }
+    ensures { MatchOption result (among lift (slot_numbers slots.now) ≡ false) (λ k. (k < length slots.now) × HoldsAt (λ s. s.number ≡ lift) slots.now k) }
 {
-    (count + 99) / 100
+    slots.binary_search_by_key(&lift, |s| s.number).ok()
 }
 
-// 1 if a number is at most another, else 0: computed, since nobody can predict a branch here.
-fn at_most(m: u64, n: u64) -> usize
-    requires m_bound { m < 2 ^ 32 }
-    requires n_bound { n < 2 ^ 32 }
-    ensures { result ≡ indicator (leb m n) }
+// The lines one by one: the slot of a lift that is named gets its new measure; how many lines there are, or the refusal of the first faulty one.
+pub fn gather(text: &[u8], slots: &mut [Slot]) -> Result<usize, Refusal>
+    requires rising { RisingAbove 0 (slot_numbers slots.old) }
+    requires empty { slots.old ≡ slots_of (slot_numbers slots.old) [] }
+    ensures { MatchResult result (λ n. AllTaken (slot_numbers slots.old) (lines text.now) n slots.new) (λ x. lines_from (slot_numbers slots.old) [] 1 (lines text.now) ≡ faulty (refusal_of x)) }
 {
-    ((n + ((1 << 32) - m)) >> 32) as usize
-}
-
-// Where the part that may hold a number begins, once the part from `low` on is cut after `half` numbers.
-fn cut_at(numbers: &[u64], low: usize, half: usize, n: u64) -> usize
-    requires lift_numbers { LiftNumbers numbers.now }
-    requires half_bound { low + half ≤ most_lifts }
-    requires n_bound { n < 2 ^ 32 }
-    ensures { result ≡ cut_at numbers.now low half n }
-{
-    let middle = low + half;
-    if numbers.len() <= middle {
-        return low;
-    }
-    low + half * at_most(numbers[middle], n)
-}
-
-// Where a number stands among rising numbers: the part that may hold it is halved until one is left.
-fn find(numbers: &[u64], n: u64) -> Found
-    requires lift_numbers { LiftNumbers numbers.now }
-    requires n_bound { n < 2 ^ 32 }
-    ensures { Located numbers.now n result }
-{
-    let mut low = 0;
-    let mut size = Sheet::MOST_LIFTS;
-    while 1 < size {
-        let half = size / 2;
-        low = cut_at(numbers, low, half, n);
-        size -= half;
-    }
-    if numbers.len() <= low {
-        return Found::Nothing;
-    }
-    if numbers[low] != n {
-        return Found::Nothing;
-    }
-    Found::At(low)
-}
-
-// The lines one by one: the slot of a lift that is named gets its new measure plus one.
-pub fn gather(text: &[u8], numbers: &[u64], measures: &mut [u64]) -> Lines
-    requires lift_numbers { LiftNumbers numbers.now }
-    requires measures_value { measures.old ≡ replicate (length numbers.now) 0 }
-    ensures { LinesAnswered numbers.now (lines text.now) result measures.new }
-{
-    let mut at = 0;
+    let mut rest = text;
     let mut i = 0;
-    while at < text.len() {
-        let line = i + 1;
-        let Line::Entry(lift, count, next) = read_line(text, at) else {
-            return Lines::Faulty(Refusal::Form(line));
-        };
-        let Found::At(k) = find(numbers, lift) else {
-            return Lines::Faulty(Refusal::Lift(line));
-        };
-        if measures[k] != 0 {
-            return Lines::Faulty(Refusal::Lift(line));
+    while !rest.is_empty() {
+        i += 1;
+        let (line, behind) = read_line(rest).ok_or(Refusal::Form(i))?;
+        let k = find(slots, line.lift).ok_or(Refusal::Lift(i))?;
+        let slot = &mut slots[k];
+        if slot.measure.is_some() {
+            return Err(Refusal::Lift(i));
         }
-        measures[k] = hundreds(count) + 1;
-        at = next;
-        i = line;
+        slot.measure = Some(line.count.div_ceil(100));
+        rest = behind;
     }
-    Lines::All(i)
+    Ok(i)
 }

@@ -1,137 +1,70 @@
-// A line of the centre's text, read from a position.
-ghost use Rattle.std.specs.Prelude.{◌≡◌, true, ◌+◌, ◌-◌, ◌*◌, ◌≤◌, ◌<◌};
-ghost use Rattle.counts.specs.Text.{is_digit};
-ghost use Rattle.intake.specs.Positions.{cap, clamp, digits_at, number_at, ending_at, line_at};
-
-use tally::Found;
-
-const LF: u8 = 10;
-
-const CR: u8 = 13;
-
-const COMMA: u8 = 44;
+// A line of the centre's text, read from the front.
+ghost use Rattle.std.specs.Prelude.{◌≡◌, true, false, ◌<◌, drop, MatchOption};
+ghost use Rattle.counts.specs.Text.{value, empty, is_number, malformed, count_line};
+ghost use Rattle.intake.specs.Positions.{cap, clamp, span, leading, first_line, extent, NumberRead, EndingRead, LineRead};
 
 // The largest lift number and the largest count of a line.
-const LARGEST_LIFT: u64 = 268435455;
+const LARGEST_LIFT: u32 = 268435455;
 
-const LARGEST_COUNT: u64 = 104857600;
+const LARGEST_COUNT: u32 = 104857600;
 
 // Numbers are clamped to one above the largest that a line may have.
-const CAP: u64 = 268435456;
+const CAP: u32 = 268435456;
 
-// The digits at a position: their number, clamped, and where they end.
-#[derive(Drop)]
-struct Digits {
-    value: u64,
-    next: usize,
+// What a line says: a lift and its count.
+#[derive(Clone, Copy)]
+pub struct Line {
+    pub lift: u32,
+    pub count: u32,
 }
 
-// A number with what is behind it.
-#[derive(Drop)]
-enum Number {
-    Is(u64, usize),
-    Not,
-}
-
-// A line: a lift, its count and where the next line begins; or another form.
-#[derive(Drop)]
-pub enum Line {
-    Entry(u64, u64, usize),
-    Malformed,
-}
-
-// Whether a byte is a decimal digit.
-fn is_digit(b: u8) -> bool
-    ensures { result ≡ is_digit b }
+// The number of the digits that a text begins with, clamped, and what is behind them.
+fn read_digits(text: &[u8]) -> (u32, &[u8])
+    ensures value { result.0 ≡ clamp (value (leading text.now)) }
+    ensures behind { result.1.now ≡ drop (span text.now) text.now }
 {
-    48 <= b && b <= 57
-}
-
-// A clamped number with one digit more.
-fn push(value: u64, b: u8) -> u64
-    requires value_le_cap { value ≤ cap }
-    requires b_value { is_digit b ≡ true }
-    ensures { result ≡ clamp (value * 10 + (b - 48)) }
-{
-    let next = value * 10 + ((b - 48) as u64);
-    if CAP < next {
-        return CAP;
+    let mut value = 0;
+    let mut rest = text;
+    while let [b @ b'0'..=b'9', behind @ ..] = rest {
+        value = CAP.min(value * 10 + u32::from(*b - b'0'));
+        rest = behind;
     }
-    next
+    (value, rest)
 }
 
-// The digits at a position.
-fn read_digits(text: &[u8], at: usize) -> Digits
-    ensures { result ≡ digits_at text.now at }
-{
-    let mut value: u64 = 0;
-    let mut i = at;
-    while i < text.len() {
-        let b = text[i];
-        if !is_digit(b) {
-            return Digits { value, next: i };
-        }
-        value = push(value, b);
-        i += 1;
-    }
-    Digits { value, next: i }
-}
-
-// The number up to a limit at a position.
-fn read_number(text: &[u8], at: usize, limit: u64) -> Number
+// The number up to a limit that a text begins with, and what is behind it.
+fn read_number(text: &[u8], limit: u32) -> Option<(u32, &[u8])>
     requires { limit < cap }
-    ensures { result ≡ number_at limit text.now at }
+    ensures { MatchOption result (is_number limit (leading text.now) ≡ false) (λ p. NumberRead limit text.now p.0 p.1.now) }
 {
-    let d = read_digits(text, at);
-    if d.next == at {
-        return Number::Not;
+    let (value, rest) = read_digits(text);
+    if rest.len() == text.len() || limit < value {
+        return None;
     }
-    if limit < d.value {
-        return Number::Not;
-    }
-    Number::Is(d.value, d.next)
+    Some((value, rest))
 }
 
-// What is behind the line's ending at a position, the text's end included.
-fn read_ending(text: &[u8], at: usize) -> Found
-    ensures { result ≡ ending_at text.now at }
+// What is behind the ending of a line at the front of a text; the text's end is one.
+fn read_ending(text: &[u8]) -> Option<&[u8]>
+    ensures { MatchOption result (empty (first_line text.now) ≡ false) (λ rest. EndingRead text.now rest.now) }
 {
-    if text.len() <= at {
-        return Found::At(at);
+    match text {
+        [] => Some(text),
+        [b'\n', rest @ ..] => Some(rest),
+        [b'\r', b'\n', rest @ ..] => Some(rest),
+        _ => None,
     }
-    if text[at] == LF {
-        return Found::At(at + 1);
-    }
-    if text[at] != CR {
-        return Found::Nothing;
-    }
-    if text.len() <= at + 1 {
-        return Found::Nothing;
-    }
-    if text[at + 1] != LF {
-        return Found::Nothing;
-    }
-    Found::At(at + 2)
 }
 
-// The line at a position.
-pub fn read_line(text: &[u8], at: usize) -> Line
-    ensures { result ≡ line_at text.now at }
+// The line at the front of a text, and what is behind it.
+pub fn read_line(text: &[u8]) -> Option<(Line, &[u8])>
+    ensures { MatchOption result (count_line (first_line text.now) ≡ malformed) (λ p. LineRead text.now p.0 p.1.now) }
 {
-    let Number::Is(lift, comma) = read_number(text, at, LARGEST_LIFT) else {
-        return Line::Malformed;
+    let (lift, rest) = read_number(text, LARGEST_LIFT)?;
+    let [b',', rest @ ..] = rest else {
+        return None;
     };
-    if text.len() <= comma {
-        return Line::Malformed;
-    }
-    if text[comma] != COMMA {
-        return Line::Malformed;
-    }
-    let Number::Is(count, end) = read_number(text, comma + 1, LARGEST_COUNT) else {
-        return Line::Malformed;
-    };
-    let Found::At(next) = read_ending(text, end) else {
-        return Line::Malformed;
-    };
-    Line::Entry(lift, count, next)
+    let (count, rest) = read_number(rest, LARGEST_COUNT)?;
+    let rest = read_ending(rest)?;
+    Some((Line { lift, count }, rest))
 }

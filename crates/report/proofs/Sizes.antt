@@ -35,9 +35,9 @@ length_refused number place =
 
 -- ---- in bytes
 
-pub refused_le : (number place : ℕ) → number < 2 ^ 64 → place < 2 ^ 64 → length (refused_line (numbered number place)) ≤ text_room
-refused_le number place n p =
-    omega (arith, length_refused number place, field_le 19 number space (omega arith), field_le 19 place LF (omega arith))
+-- whatever the number is
+pub field_room : (n b : ℕ) → n < 2 ^ 64 → length (field n b) ≤ 21
+field_room n b h = field_le 19 n b (omega arith)
 
 line_le : (c : Choice) → Sound c → length (choice_line c.round c.number c.outcome) ≤ 16
 line_le c p =

@@ -7,18 +7,15 @@ use native.Mathlib.Nat.{pow-suc, add-zero, zero-add}
 use native.Mathlib.Omega.{arith}
 use lib.Count.{count_trailing_zeros, under}
 use lib.Dec.{eqb}
-use lib.ListN.{get_or, set}
 use Rattle.probability.specs.Sum.{indicator}
 use Rattle.sheet.specs.Sheet.{most_rounds, Lift}
 use Rattle.tally.specs.Rounds.{filter_range, rounds, sends, donors}
 use Rattle.tally.specs.Tables.{bits}
-use Rattle.rows.specs.SetBits.{set_from, set_bits, no_bit, two_at, first_two}
+use Rattle.rows.specs.SetBits.{set_from, set_bits}
 use Rattle.sheet.specs.Law.{AllWellFormed}
-use Rattle.tally.proofs.Tables.{get_or_tabulate}
 use Rattle.tally.proofs.Bits.{low, high}
 use Rattle.tally.proofs.Ranges.{filter_cut, filter_none, filter_head}
 use Rattle.tally.proofs.Sending.{sends_none, from_nowhere, from_beyond}
-use Rattle.tally.proofs.Filling.{Filled, filled_turn}
 
 -- ---- one bit more
 
@@ -54,17 +51,6 @@ module _ (n w : ℕ) (b : Bool) (x : ℕ) (e : w ≡ indicator b + 2 * x) where
       go false = refl
 
 -- ---- the lowest
-
--- the number of zeros below the lowest bit that is set is its place; where none is set, it is the place behind the last bit
-pub set_first : (a n d w : ℕ) → d ≡ a + n → get_or (set_from a n w) 0 d ≡ a + count_trailing_zeros n w
-unfolding set_from count_trailing_zeros
-set_first a zero d w q = q
-set_first a (suc n) d w q = go (halved w).bit (halved w).rest (halved w).same (λ x. set_first (suc a) n d x (omega arith))
-  where
-    go : (b : Bool) (x : ℕ) → w ≡ indicator b + 2 * x → ((y : ℕ) → get_or (set_from (suc a) n y) 0 d ≡ suc a + count_trailing_zeros n y)
-        → get_or (set_from a (suc n) w) 0 d ≡ a + count_trailing_zeros (suc n) w
-    go true x e ih = rw (set_step n w true x e a, zeros_step n w true x e) (omega arith)
-    go false x e ih = rw (set_step n w false x e a, zeros_step n w false x e) (omega (arith, ih x))
 
 -- bit t is the lowest of the n bits of w that is set: those that are set are t and those of w without it
 pub record Lowest (n w t : ℕ) : Type 0 where
@@ -111,34 +97,9 @@ module _ (low high : ℕ) where
   pub set_high : low ≡ 0 → 0 < high → high < 2 ^ 64 → set_bits low high ≡ (64 + count_trailing_zeros 64 high) ∷ set_bits 0 (high - 2 ^ count_trailing_zeros 64 high)
   set_high e p h = rw (e, set_none 0 64) ((lowest_set 64 high p h).rest 64)
 
-  pub high_first : low ≡ 0 → get_or (set_bits low high) 0 no_bit ≡ 64 + count_trailing_zeros 64 high
-  high_first e = rw (e, set_none 0 64) (set_first 64 64 no_bit high refl)
-
   -- where none is set
   pub none_set : low ≡ 0 → high ≡ 0 → set_bits low high ≡ []
   none_set e f = rw (e, f, set_none 0 64, set_none 64 64)
-
--- ---- pairs of words
-
--- bit i of pair r
-pub two_at_lem : (words : List ℕ) (k r i : ℕ) → k ≡ 2 * r + i → i < 2 → two_at words k ≡ get_or (set_bits (get_or words (2 * r) 0) (get_or words (2 * r + 1) 0)) i no_bit
-two_at_lem words k r i e h =
-    let x : k / 2 ≡ r = omega arith in
-    let y : k % 2 ≡ i = omega arith in
-    rw (x, y)
-
-pub first_two_at : (words : List ℕ) (k r i : ℕ) → k ≡ 2 * r + i → i < 2 → r ≤ most_rounds
-    → get_or (first_two words) k 0 ≡ get_or (set_bits (get_or words (2 * r) 0) (get_or words (2 * r + 1) 0)) i no_bit
-first_two_at words k r i e h l = get_or_tabulate (2 * (most_rounds + 1)) (two_at words) k (omega arith) ∙ two_at_lem words k r i e h
-
--- one pair more
-pub two_turn : (words : List ℕ) {n : ℕ} {tbl tbl' : List ℕ} {r a b : ℕ} → Filled (2 * n) (two_at words) tbl (2 * r) → r < n
-    → a ≡ get_or (set_bits (get_or words (2 * r) 0) (get_or words (2 * r + 1) 0)) 0 no_bit → b ≡ get_or (set_bits (get_or words (2 * r) 0) (get_or words (2 * r + 1) 0)) 1 no_bit
-    → tbl' ≡ set (set tbl (2 * r) a) (2 * r + 1) b → Filled (2 * n) (two_at words) tbl' (2 * (r + 1))
-two_turn words {n} {r = r} t h ea eb q =
-    let e : 2 * (r + 1) ≡ 2 * r + 1 + 1 = omega arith in
-    let one = filled_turn t (omega arith) (ea ∙ sym (two_at_lem words (2 * r) r 0 (omega arith) (omega arith))) refl in
-    rw e (filled_turn one (omega arith) (eb ∙ sym (two_at_lem words (2 * r + 1) r 1 refl (omega arith))) q)
 
 -- ---- numbers made of bits
 

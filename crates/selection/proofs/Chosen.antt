@@ -13,7 +13,8 @@ use Rattle.draw.specs.Draw.{largest}
 use Rattle.draw.specs.Run.{finished, run}
 use Rattle.draw.proofs.Runs.{run_every}
 use Rattle.round.specs.Round.{lift_at as round_lift_at, old_weight, weights, weight_at, whole_sums, WellPosed}
-use Rattle.round.specs.Choice.{Selection, keyfitz}
+use Rattle.round.specs.Choice.{keyfitz}
+use Rattle.round.specs.declared.Selection.{Selection}
 use Rattle.round.specs.Law.{Weighty}
 use Rattle.round.specs.Rows.{lift_of_measures, IfHere}
 use Rattle.round.specs.declared.Donors.{Donors}

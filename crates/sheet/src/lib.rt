@@ -93,16 +93,6 @@ impl Sheet {
     }
 }
 
-// The state of the scan: the kind of the last word, 0 before the first, the number of the last lift, the word of its old place, and
-// how many lifts there are.
-#[derive(Clone, Copy)]
-pub struct ScanState {
-    pub kind: u32,
-    pub number: u32,
-    pub old: u32,
-    pub lifts: usize,
-}
-
 // A lift read from its words: its number, old round and measure, new round and the new measure that counts, and whether it is held.
 #[derive(Clone, Copy)]
 pub struct Entry {

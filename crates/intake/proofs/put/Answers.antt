@@ -1,46 +1,26 @@
-use mathlib.Core.Path.{refl}
-use Rattle.intake.proofs.Renewing.{putting_none, putting_length, putting_room, putting_moved, putting_turn, putting_end}
-use native.Mathlib.Omega.{arith}
+use Rattle.std.proofs.Common.{arith}
+use Rattle.intake.proofs.Renewing.{putting_none, putting_room, putting_kept, putting_turn, putting_end}
 use Rattle.intake.proofs.put.Goals as goal
+use Rattle.intake.proofs.put.Goals.{in-Some, in_default}
 
-pub loop-k-init : goal.loop-k-init
-loop-k-init c = putting_none c.requires.legible c.requires.measures_len
+pub loop-slot-init : goal.loop-slot-init
+loop-slot-init c = putting_none c.requires.legible c.requires.slots_len
 
 pub marks-held-requires : goal.marks-held-requires
-marks-held-requires c = omega (arith, putting_room c.loop-k.invariant c.loop-k-test.true)
-
-pub overflow_add-i : goal.overflow_add-i
-overflow_add-i c = omega (arith, putting_room c.loop-k.invariant c.loop-k-test.true, putting_length c.loop-k.invariant, c.requires.legible.short)
-
-pub offset_bounds-sheet-i : goal.offset_bounds-sheet-i
-offset_bounds-sheet-i c = omega (arith, putting_room c.loop-k.invariant c.loop-k-test.true, putting_length c.loop-k.invariant, c.requires.legible.short)
+marks-held-requires c = putting_room c.loop-slot.invariant c.loop-slot-test.true
 
 pub bounds-sheet-i : goal.bounds-sheet-i
-bounds-sheet-i c = omega (arith, putting_room c.loop-k.invariant c.loop-k-test.true)
+bounds-sheet-i c = omega (arith, putting_room c.loop-slot.invariant c.loop-slot-test.true)
 
-pub renew-requires : goal.renew-requires
-renew-requires c = c.requires.by_index c.loop-k.k
+pub bounds-sheet-i-in-Some : goal.bounds-sheet-i-in-Some
+bounds-sheet-i-in-Some c = omega (arith, putting_room c.loop-slot.invariant c.loop-slot-test.true)
 
-pub overflow_add-sheet : goal.overflow_add-sheet
-overflow_add-sheet c = omega (arith, putting_room c.loop-k.invariant c.loop-k-test.true, putting_length c.loop-k.invariant, c.requires.legible.short)
-
-pub offset_bounds-sheet-i-in-loop-k : goal.offset_bounds-sheet-i-in-loop-k
-offset_bounds-sheet-i-in-loop-k c = omega (arith, putting_room c.loop-k.invariant c.loop-k-test.true, putting_length c.loop-k.invariant, c.requires.legible.short)
-
-pub bounds-sheet-i-in-loop-k : goal.bounds-sheet-i-in-loop-k
-bounds-sheet-i-in-loop-k c = omega (arith, putting_room c.loop-k.invariant c.loop-k-test.true)
-
-pub overflow_add-i-in-loop-k : goal.overflow_add-i-in-loop-k
-overflow_add-i-in-loop-k c = omega (arith, putting_moved c.loop-k.invariant c.loop-k-test.true c.marks-held.ensures, putting_length c.loop-k.invariant, c.requires.legible.short)
-
-pub overflow_add-i-in-loop-k-2 : goal.overflow_add-i-in-loop-k-2
-overflow_add-i-in-loop-k-2 c = omega (arith, putting_moved c.loop-k.invariant c.loop-k-test.true c.marks-held.ensures, putting_length c.loop-k.invariant, c.requires.legible.short)
-
-pub loop-k-preserved : goal.loop-k-preserved
-loop-k-preserved c = putting_turn c.loop-k.invariant c.loop-k-test.true c.renew.ensures c.marks-held.ensures refl
-
-pub shape_of-sheet : goal.shape_of-sheet
-shape_of-sheet c = putting_length c.loop-k.invariant
+pub loop-slot-preserved : goal.loop-slot-preserved
+loop-slot-preserved c =
+    elim c.match-slot.branch [
+      | in-Some w ↦ rw w.sheet-is (putting_turn c.loop-slot.invariant c.loop-slot-test.true w.in-Some.is c.marks-held.ensures w.renew.ensures)
+      | in_default w ↦ rw w.sheet-is (putting_kept c.loop-slot.invariant c.loop-slot-test.true w.in_default.is c.marks-held.ensures)
+    ]
 
 pub returns : goal.returns
-returns c = putting_end c.loop-k.invariant c.loop-k-test.false
+returns c = putting_end c.loop-slot.invariant c.loop-slot-test.false

@@ -1,58 +1,42 @@
-use mathlib.Core.Path.{refl}
-use Rattle.intake.proofs.Slots.{kept_none, kept_length, kept_same, kept_end, kept_malformed, kept_small, kept_lift, kept_less, kept_absent, kept_place, kept_had, kept_turn}
-use native.Mathlib.Omega.{arith}
+use Rattle.std.proofs.Common.{rules, subst, sym}
+use Rattle.std.proofs.lemmas.Result.{err_from_is_err_and}
+use Rattle.intake.specs.Positions.{RisingAbove}
+use Rattle.intake.proofs.Slots.{refused_by, taken_by, kept_none, kept_numbers, kept_end, kept_malformed, kept_less, kept_absent, kept_had, kept_turn}
 use Rattle.intake.proofs.lines.gather.Goals as goal
 
-pub loop-at-init : goal.loop-at-init
-loop-at-init c = kept_none _ _ c.requires.measures_value
+pub loop-rest-init : goal.loop-rest-init
+loop-rest-init c = kept_none _ _ c.requires.empty
 
-pub shape_of-measures-in_default : goal.shape_of-measures-in_default
-shape_of-measures-in_default c = kept_same c.loop-at.invariant c.requires.measures_value
-
-pub returns-in_default : goal.returns-in_default
-returns-in_default c = kept_malformed c.loop-at.invariant c.loop-at-test.true c.read_line.ensures c.in_default.is
+pub returns-in_err-line : goal.returns-in_err-line
+returns-in_err-line c =
+    let p = err_from_is_err_and c.from_residual.result c.from_residual.ensures.1 in
+    let q = refused_by _ _ _ _ c.in_err-line.ensures.value c.read_line.ensures in
+    rw (p.1, p.2, q.1) (kept_malformed c.loop-rest.invariant (search rules) q.0)
 
 pub find-requires : goal.find-requires
-find-requires c = record { lift_numbers = c.requires.lift_numbers; n_bound = kept_lift c.loop-at.invariant c.loop-at-test.true c.read_line.ensures c.in-Entry.is }
+find-requires c = subst (RisingAbove 0) (sym (kept_numbers c.loop-rest.invariant)) c.requires.rising
 
-pub shape_of-measures-in_default-find : goal.shape_of-measures-in_default-find
-shape_of-measures-in_default-find c = kept_same c.loop-at.invariant c.requires.measures_value
+pub returns-in_err-k : goal.returns-in_err-k
+returns-in_err-k c =
+    let p = err_from_is_err_and c.from_residual-in_err-k.result c.from_residual-in_err-k.ensures.1 in
+    let e = taken_by _ _ _ _ c.in_ok-line.ensures.value c.read_line.ensures in
+    let q = refused_by _ _ _ _ c.in_err-k.ensures.value c.find.ensures in
+    rw (p.1, p.2, q.1) (kept_absent c.loop-rest.invariant (search rules) e q.0)
 
-pub returns-in_default-find : goal.returns-in_default-find
-returns-in_default-find c = kept_absent c.loop-at.invariant c.loop-at-test.true c.read_line.ensures c.in-Entry.is c.find.ensures c.in_default-find.is
+pub returns-then-is_some : goal.returns-then-is_some
+returns-then-is_some c =
+    let e = taken_by _ _ _ _ c.in_ok-line.ensures.value c.read_line.ensures in
+    let q = taken_by _ _ _ _ c.in_ok-k.ensures.value c.find.ensures in
+    kept_had c.loop-rest.invariant (search rules) e q.0 q.1 (sym c.if-is_some.ensures)
 
-pub offset_bounds-measures-k : goal.offset_bounds-measures-k
-offset_bounds-measures-k c = omega (arith, (kept_place c.loop-at.invariant c.loop-at-test.true c.read_line.ensures c.in-Entry.is c.find.ensures c.in-At.is).0, kept_length c.loop-at.invariant)
+pub loop-rest-smaller : goal.loop-rest-smaller
+loop-rest-smaller c = kept_less c.loop-rest.invariant (search rules) (taken_by _ _ _ _ c.in_ok-line.ensures.value c.read_line.ensures)
 
-pub bounds-measures-k : goal.bounds-measures-k
-bounds-measures-k c = omega (arith, (kept_place c.loop-at.invariant c.loop-at-test.true c.read_line.ensures c.in-Entry.is c.find.ensures c.in-At.is).0, kept_length c.loop-at.invariant)
-
-pub shape_of-measures-then-measures-k-ne0 : goal.shape_of-measures-then-measures-k-ne0
-shape_of-measures-then-measures-k-ne0 c = kept_same c.loop-at.invariant c.requires.measures_value
-
-pub returns-then-measures-k-ne0 : goal.returns-then-measures-k-ne0
-returns-then-measures-k-ne0 c = kept_had c.loop-at.invariant c.loop-at-test.true c.read_line.ensures c.in-Entry.is c.find.ensures c.in-At.is c.if-measures-k-ne0.true
-
-pub hundreds-requires : goal.hundreds-requires
-hundreds-requires c = kept_small c.loop-at.invariant c.loop-at-test.true c.read_line.ensures c.in-Entry.is
-
-pub overflow_add-measures : goal.overflow_add-measures
-overflow_add-measures c = omega (arith, c.hundreds.ensures, kept_small c.loop-at.invariant c.loop-at-test.true c.read_line.ensures c.in-Entry.is)
-
-pub offset_bounds-measures-k-in-loop-at : goal.offset_bounds-measures-k-in-loop-at
-offset_bounds-measures-k-in-loop-at c = omega (arith, (kept_place c.loop-at.invariant c.loop-at-test.true c.read_line.ensures c.in-Entry.is c.find.ensures c.in-At.is).0, kept_length c.loop-at.invariant)
-
-pub bounds-measures-k-in-loop-at : goal.bounds-measures-k-in-loop-at
-bounds-measures-k-in-loop-at c = omega (arith, (kept_place c.loop-at.invariant c.loop-at-test.true c.read_line.ensures c.in-Entry.is c.find.ensures c.in-At.is).0, kept_length c.loop-at.invariant)
-
-pub loop-at-smaller : goal.loop-at-smaller
-loop-at-smaller c = omega (arith, kept_less c.loop-at.invariant c.loop-at-test.true c.read_line.ensures c.in-Entry.is, c.loop-at-test.true)
-
-pub loop-at-preserved : goal.loop-at-preserved
-loop-at-preserved c = kept_turn c.loop-at.invariant c.loop-at-test.true c.read_line.ensures c.in-Entry.is c.find.ensures c.in-At.is c.requires.lift_numbers c.if-measures-k-ne0.false c.hundreds.ensures refl
-
-pub shape_of-measures : goal.shape_of-measures
-shape_of-measures c = kept_same c.loop-at.invariant c.requires.measures_value
+pub loop-rest-preserved : goal.loop-rest-preserved
+loop-rest-preserved c =
+    let e = taken_by _ _ _ _ c.in_ok-line.ensures.value c.read_line.ensures in
+    let q = taken_by _ _ _ _ c.in_ok-k.ensures.value c.find.ensures in
+    kept_turn c.loop-rest.invariant (search rules) e q.0 q.1 c.requires.rising (sym c.if-is_some.ensures) c.div_ceil.ensures
 
 pub returns : goal.returns
-returns c = kept_end c.loop-at.invariant c.loop-at-test.false
+returns c = kept_end c.loop-rest.invariant (search rules)

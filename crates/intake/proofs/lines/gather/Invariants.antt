@@ -1,11 +1,11 @@
 -- `intake::gather` meets its contract: the slots are those of the lines so far, and the lines left decide. Assumes nothing.
-use Prim.Native.Nat.{◌-◌}
 use lib.ListN.{length}
+use Rattle.intake.specs.Positions.{slot_numbers}
 use Rattle.intake.proofs.Slots.{LinesKept}
 use Rattle.intake.proofs.lines.gather.Given as goal
 
-abbrev pub invariant-loop-at : goal.invariant-loop-at
-invariant-loop-at l = LinesKept l.text l.numbers l.measures l.at l.i
+abbrev pub invariant-loop-rest : goal.invariant-loop-rest
+invariant-loop-rest l = LinesKept l.text (slot_numbers l.initial.slots) l.slots l.rest l.i
 
-abbrev pub decreases-loop-at : goal.decreases-loop-at
-decreases-loop-at l = length l.text - l.at
+abbrev pub decreases-loop-rest : goal.decreases-loop-rest
+decreases-loop-rest l = length l.rest

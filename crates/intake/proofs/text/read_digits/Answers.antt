@@ -1,18 +1,16 @@
-use mathlib.Core.Path.{sym, ◌∙◌}
-use Rattle.intake.proofs.Numbers.{reading_none, reading_turn, reading_stop, reading_end}
+use Rattle.intake.proofs.Numbers.{reading_none, reading_turn, reading_end}
+use Rattle.std.proofs.Common.{rules}
 use Rattle.intake.proofs.text.read_digits.Goals as goal
+use Rattle.intake.proofs.text.read_digits.Goals.{in_default, in_default-2, in_default-3}
 
-pub loop-i-init : goal.loop-i-init
-loop-i-init c = search reading_none
+pub loop-rest-init : goal.loop-rest-init
+loop-rest-init c = reading_none _
 
-pub returns-then-not-is_digit : goal.returns-then-not-is_digit
-returns-then-not-is_digit c = reading_stop c.loop-i.invariant c.loop-i-test.true (sym c.is_digit.ensures ∙ c.if-not-is_digit.true)
+pub loop-rest-preserved : goal.loop-rest-preserved
+loop-rest-preserved c = reading_turn _ c.loop-rest.invariant c.in-48-to-57.len_at_least (search rules) (search rules) c.from.ensures c.min-value.ensures
 
-pub push-value-requires : goal.push-value-requires
-push-value-requires c = record { value_le_cap = c.loop-i.invariant.small; b_value = sym c.is_digit.ensures ∙ c.if-not-is_digit.false }
+pub returns-clause-value : goal.returns-clause-value
+returns-clause-value c = (reading_end _ c.loop-rest.invariant (λ l h k. elim c.if-rest-lt1.branch [ in_default w ↦ search rules | in_default-2 w ↦ search rules | in_default-3 w ↦ search rules ])).0
 
-pub loop-i-preserved : goal.loop-i-preserved
-loop-i-preserved c = reading_turn c.loop-i.invariant c.loop-i-test.true (sym c.is_digit.ensures ∙ c.if-not-is_digit.false) c.push-value.ensures
-
-pub returns : goal.returns
-returns c = search reading_end
+pub returns-clause-behind : goal.returns-clause-behind
+returns-clause-behind c = (reading_end _ c.loop-rest.invariant (λ l h k. elim c.if-rest-lt1.branch [ in_default w ↦ search rules | in_default-2 w ↦ search rules | in_default-3 w ↦ search rules ])).1

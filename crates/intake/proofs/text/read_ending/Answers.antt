@@ -1,21 +1,17 @@
 -- `intake::read_ending` meets its contract: one law for each way out. Assumes nothing.
-use Rattle.intake.proofs.Texts.{ending_past, ending_lf, ending_other, ending_cr_lem, ending_cr_other, ending_crlf}
+use Rattle.std.proofs.Common.{rules}
+use Rattle.intake.proofs.Texts.{ending_past, ending_lf, ending_crlf, ending_none}
 use Rattle.intake.proofs.text.read_ending.Goals as goal
+use Rattle.intake.proofs.text.read_ending.Goals.{in_default-via-then-text-lt2+in_default-1, in_default-via-else-text-lt2+in-13+in_default-1, in_default-via-else-text-lt2+in_default-1}
 
-pub returns-then-text-at : goal.returns-then-text-at
-returns-then-text-at c = search ending_past
+pub returns-in-empty : goal.returns-in-empty
+returns-in-empty c = ending_past _ c.in-empty.len_below
 
-pub returns-then-text-at-eq-LF : goal.returns-then-text-at-eq-LF
-returns-then-text-at-eq-LF c = search ending_lf
+pub returns-in-10 : goal.returns-in-10
+returns-in-10 c = ending_lf _ (search rules) (search rules)
 
-pub returns-then-text-at-ne-CR : goal.returns-then-text-at-ne-CR
-returns-then-text-at-ne-CR c = search ending_other
+pub returns-in-13 : goal.returns-in-13
+returns-in-13 c = ending_crlf _ (search rules) (search rules) (search rules)
 
-pub returns-then-text-at-2 : goal.returns-then-text-at-2
-returns-then-text-at-2 c = search ending_cr_lem
-
-pub returns-then-text-at-ne-LF : goal.returns-then-text-at-ne-LF
-returns-then-text-at-ne-LF c = search ending_cr_other
-
-pub returns : goal.returns
-returns c = search ending_crlf
+pub returns-in_default : goal.returns-in_default
+returns-in_default c = ending_none _ (search rules) (λ e. elim c.in_default.branch [ in_default-via-then-text-lt2+in_default-1 w ↦ search rules | in_default-via-else-text-lt2+in-13+in_default-1 w ↦ search rules | in_default-via-else-text-lt2+in_default-1 w ↦ search rules ]) (λ l e f. elim c.in_default.branch [ in_default-via-then-text-lt2+in_default-1 w ↦ search rules | in_default-via-else-text-lt2+in-13+in_default-1 w ↦ search rules | in_default-via-else-text-lt2+in_default-1 w ↦ search rules ])

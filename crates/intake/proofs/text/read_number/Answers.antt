@@ -1,12 +1,6 @@
 -- `intake::read_number` meets its contract: one law for each way out. Assumes nothing.
-use Rattle.intake.proofs.Numbers.{no_digits, above_limit, within_limit}
+use Rattle.intake.proofs.Numbers.{within_limit}
 use Rattle.intake.proofs.text.read_number.Goals as goal
 
-pub returns-then-d-at : goal.returns-then-d-at
-returns-then-d-at c = search no_digits
-
-pub returns-then-limit-d : goal.returns-then-limit-d
-returns-then-limit-d c = search above_limit
-
 pub returns : goal.returns
-returns c = search within_limit
+returns c = within_limit c.args.limit c.args.text.now c.read_digits-value.ensures.value c.read_digits-value.ensures.behind c.requires c.if-rest-text.false c.if-limit-value.false
