@@ -1,10 +1,10 @@
 -- The rows of a round and the sums over them, and the search for the place in whose interval a position falls.
-use Prim.Native.Nat.{ℕ, zero, suc, ◌+◌, ◌-◌, ◌/◌, ◌^◌, ◌≤◌, ◌<◌}
+use Prim.Native.Nat.{ℕ, ◌+◌, ◌-◌, ◌/◌, ◌^◌, ◌≤◌, ◌<◌}
 use mathlib.Core.Path.{◌≡◌, refl, ap}
 use mathlib.Core.List.{List, [], ◌∷◌, map, map-map}
 use native.Mathlib.Numerals.{add-one}
 use native.Mathlib.Omega.{arith}
-use lib.ListN.{length, get_or, take, drop, drop_of_length-le, length-map, get_or-map}
+use lib.ListN.{length, get_or, drop, drop_of_length-le, length-map, get_or-map}
 use lib.Seq.{drop-cons}
 use Rattle.std.specs.List.{sum_by, All}
 use Rattle.std.specs.Simd.{first_chunks}
@@ -12,8 +12,8 @@ use Rattle.std.proofs.lemmas.List.Elements.{All-from_get_or}
 use Rattle.std.proofs.lemmas.List.Recursion.{is_sum_by}
 use Rattle.probability.specs.Sum.{total}
 use Rattle.probability.specs.Interval.{pick}
-use Rattle.probability.specs.Pieces.{cut}
 use Rattle.probability.proofs.Sums.{total_map, map_le}
+use Rattle.probability.proofs.Pieces.{chunks_pieces}
 use Rattle.probability.proofs.Intervals.{pick_here, pick_beyond}
 use Rattle.round.specs.Round.{lift_at, U, measure_from, weight_at, growth, G}
 use Rattle.round.specs.Rows.{lift_of_measures, row_length, row_lift, row_lifts}
@@ -25,15 +25,10 @@ use Rattle.round.proofs.WeightSums.{U_sum, dropped_G, G_le}
 
 -- ---- the rows
 
-chunks_cut : {A : Type 0} (k n : ℕ) (xs : List A) → first_chunks k n xs ≡ cut k n xs
-unfolding cut
-chunks_cut k zero xs = refl
-chunks_cut k (suc n) xs = ap (◌∷◌ (take k xs)) (chunks_cut k n (drop k xs))
-
 -- the rows are the library's chunks
 pub rows_chunked : (rows : List ℕ) → map row_lift (first_chunks row_length (length rows / row_length) rows) ≡ row_lifts rows
 unfolding row_lifts
-rows_chunked rows = ap (map row_lift) (chunks_cut row_length (length rows / row_length) rows)
+rows_chunked rows = ap (map row_lift) (chunks_pieces row_length rows)
 
 -- ---- sums over the rows
 
