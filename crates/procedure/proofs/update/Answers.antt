@@ -1,6 +1,6 @@
 -- `procedure::update` meets its contract: one law for each way out; where the lift may be dropped, the growths have a sum above 0. Assumes nothing.
 use mathlib.Core.Path.{◌∙◌}
-use Rattle.weights.proofs.Loops.{moves_G}
+use Rattle.weights.proofs.Rows.{moves_G}
 use Rattle.procedure.proofs.Answers.{stays, kept, moved, update_short}
 use Rattle.procedure.proofs.update.Goals as goal
 

@@ -4,10 +4,9 @@ use Prim.Native.Nat.{◌<◌, ◌^◌}
 use Rattle.std.proofs.Common.{rules}
 use Rattle.std.proofs.iter.Serving.{serving}
 use Rattle.std.specs.List.{sum_by, All}
-use Rattle.round.specs.Round.{growth}
 use Rattle.round.specs.Rows.{row_lift}
-use Rattle.weights.specs.Scaling.{scaled, LiftWeightsFit}
-use Rattle.weights.proofs.Loops.{rows_G, G_room, rows_room}
+use Rattle.weights.specs.Scaling.{LiftWeightsFit}
+use Rattle.weights.proofs.Rows.{row_growth, rows_G, G_room, rows_room}
 use Rattle.weights.proofs.weighing.Weighed.growth_sum.Goals as goal
 
 pub sum-requires-clause-can : goal.sum-requires-clause-can
@@ -17,7 +16,7 @@ sum-requires-clause-can c =
 
 pub sum-requires-clause-fits : goal.sum-requires-clause-fits
 sum-requires-clause-fits c =
-    let fits : sum_by (λ row. growth (scaled c.args.self.now.scale (row_lift row))) c.rows_of.result.now < 2 ^ 64 = omega (arith, rows_G c.args.self.now.scale _ c.rows_of.ensures, G_room c.args.self.now.fits) in
+    let fits : sum_by (row_growth c.args.self.now.scale) c.rows_of.result.now < 2 ^ 64 = omega (arith, rows_G c.args.self.now.scale _ c.rows_of.ensures, G_room c.args.self.now.fits) in
     search rules
 
 pub returns : goal.returns

@@ -1,6 +1,6 @@
 use mathlib.Core.List.{[]}
 use native.Mathlib.Omega.{arith}
-use Rattle.weights.proofs.Loops.{row_growth, rows_growths, rows_room, seek_turn, seek_here, seek_end}
+use Rattle.weights.proofs.Rows.{row_growth, rows_growths, rows_room, seek_turn, seek_here, seek_end}
 use Rattle.weights.proofs.weighing.Weighed.pick.Goals as goal
 
 pub loop-i-init : goal.loop-i-init

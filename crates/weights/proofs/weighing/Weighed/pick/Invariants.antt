@@ -1,7 +1,7 @@
 -- `weights::Weighed::pick` meets its contract: from row i on, what is left of the position falls where the position falls in the whole. Assumes nothing.
 use mathlib.Core.List.{map}
 use Rattle.probability.specs.Interval.{pick}
-use Rattle.weights.proofs.Loops.{PickSought, row_growth}
+use Rattle.weights.proofs.Rows.{PickSought, row_growth}
 use Rattle.weights.proofs.weighing.Weighed.pick.Given as goal
 
 abbrev pub invariant-loop-i : goal.invariant-loop-i

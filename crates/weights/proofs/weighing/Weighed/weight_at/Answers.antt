@@ -1,5 +1,5 @@
 -- `weights::Weighed::weight_at` meets its contract: its lift's weights have room. Assumes nothing.
-use Rattle.weights.proofs.Loops.{lift_room}
+use Rattle.weights.proofs.Rows.{lift_room}
 use Rattle.weights.proofs.weighing.Weighed.weight_at.Goals as goal
 
 pub weight-requires : goal.weight-requires

@@ -1,19 +1,19 @@
 -- The rows of a round and the sums over them, and the search for the place in whose interval a position falls.
-use Prim.Native.Nat.{ℕ, zero, suc, ◌+◌, ◌-◌, ◌/◌, ◌^◌, ◌≤◌, ◌<◌}
+use Prim.Native.Nat.{ℕ, ◌+◌, ◌-◌, ◌/◌, ◌^◌, ◌≤◌, ◌<◌}
 use mathlib.Core.Path.{◌≡◌, refl, ap}
 use mathlib.Core.List.{List, [], ◌∷◌, map, map-map}
 use native.Mathlib.Numerals.{add-one}
 use native.Mathlib.Omega.{arith}
-use lib.ListN.{length, get_or, take, drop, drop_of_length-le, length-map, get_or-map}
+use lib.ListN.{length, get_or, drop, drop_of_length-le, length-map, get_or-map}
 use lib.Seq.{drop-cons}
 use Rattle.std.specs.List.{sum_by, All}
 use Rattle.std.specs.Simd.{first_chunks}
 use Rattle.std.proofs.lemmas.List.Elements.{All-from_get_or}
-use Rattle.std.proofs.lemmas.List.Sums.{sum_by-cons}
+use Rattle.std.proofs.lemmas.List.Recursion.{is_sum_by}
 use Rattle.probability.specs.Sum.{total}
 use Rattle.probability.specs.Interval.{pick}
-use Rattle.probability.specs.Pieces.{cut}
 use Rattle.probability.proofs.Sums.{total_map, map_le}
+use Rattle.probability.proofs.Pieces.{chunks_pieces}
 use Rattle.probability.proofs.Intervals.{pick_here, pick_beyond}
 use Rattle.round.specs.Round.{lift_at, U, measure_from, weight_at, growth, G}
 use Rattle.round.specs.Rows.{lift_of_measures, row_length, row_lift, row_lifts}
@@ -25,30 +25,30 @@ use Rattle.round.proofs.WeightSums.{U_sum, dropped_G, G_le}
 
 -- ---- the rows
 
-chunks_cut : {A : Type 0} (k n : ℕ) (xs : List A) → first_chunks k n xs ≡ cut k n xs
-unfolding cut
-chunks_cut k zero xs = refl
-chunks_cut k (suc n) xs = ap (◌∷◌ (take k xs)) (chunks_cut k n (drop k xs))
-
 -- the rows are the library's chunks
 pub rows_chunked : (rows : List ℕ) → map row_lift (first_chunks row_length (length rows / row_length) rows) ≡ row_lifts rows
 unfolding row_lifts
-rows_chunked rows = ap (map row_lift) (chunks_cut row_length (length rows / row_length) rows)
+rows_chunked rows = ap (map row_lift) (chunks_pieces row_length rows)
 
 -- ---- sums over the rows
 
--- the sum of f over lifts is a sum over their rows
-rows_sum : (f : Lift → ℕ) (rs : List (List ℕ)) → total (map f (map row_lift rs)) ≡ sum_by (λ row. f (row_lift row)) rs
+total_sum : {A : Type 0} (f : A → ℕ) (xs : List A) → total (map f xs) ≡ sum_by f xs
 unfolding total
-rows_sum f [] = refl
-rows_sum f (row ∷ rs) = rw (sum_by-cons (λ r. f (row_lift r)) row rs, rows_sum f rs)
+total_sum f = is_sum_by (λ xs. total (map f xs)) f refl (λ _ _. refl)
 
 pub rows_U : (k : ℕ) (rs : List (List ℕ)) {ls : List Lift} → map row_lift rs ≡ ls → U k ls ≡ sum_by (λ row. measure_from k (row_lift row)) rs
-rows_U k rs e = rw (← e, U_sum) (rows_sum (measure_from k) rs)
+rows_U k rs e = rw (← e, U_sum, total_map row_lift (measure_from k) rs) (total_sum (λ row. measure_from k (row_lift row)) rs)
 
-pub rows_G : (s : Scale) (rs : List (List ℕ)) {ls : List Lift} → map row_lift rs ≡ ls → G (map (scaled s) ls) ≡ sum_by (λ row. growth (scaled s (row_lift row))) rs
+abbrev pub row_growth : Scale → List ℕ → ℕ
+row_growth s row = growth (scaled s (row_lift row))
+
+-- the growths of a round's lifts are those of its rows
+pub rows_growths : (s : Scale) (rs : List (List ℕ)) {ls : List Lift} → map row_lift rs ≡ ls → map growth (map (scaled s) ls) ≡ map (row_growth s) rs
+rows_growths s rs e = rw (← e, map-map growth (scaled s) (map row_lift rs), map-map (λ l. growth (scaled s l)) row_lift rs)
+
+pub rows_G : (s : Scale) (rs : List (List ℕ)) {ls : List Lift} → map row_lift rs ≡ ls → G (map (scaled s) ls) ≡ sum_by (row_growth s) rs
 unfolding G
-rows_G s rs e = rw (← e, map-map growth (scaled s) (map row_lift rs)) (rows_sum (λ l. growth (scaled s l)) rs)
+rows_G s rs e = rw (rows_growths s rs e) (total_sum (row_growth s) rs)
 
 -- ---- the search for the place in whose interval a position falls
 
@@ -69,13 +69,6 @@ module _ (f : List ℕ → ℕ) (rs : List (List ℕ)) {i w : ℕ} (h : i < leng
 pub seek_end : {f : List ℕ → ℕ} {rs : List (List ℕ)} {i place left : ℕ} → length rs ≤ i → i ≤ length rs → PickSought f rs place left i → length rs ≡ place
 unfolding pick
 seek_end {rs} {i} h k d = omega (arith, rw (drop_of_length-le rs {i = i} h) at d.same)
-
-abbrev pub row_growth : Scale → List ℕ → ℕ
-row_growth s row = growth (scaled s (row_lift row))
-
--- the growths of a round's lifts are those of its rows
-pub rows_growths : (s : Scale) (rs : List (List ℕ)) {ls : List Lift} → map row_lift rs ≡ ls → map growth (map (scaled s) ls) ≡ map (row_growth s) rs
-rows_growths s rs e = rw (← e, map-map growth (scaled s) (map row_lift rs), map-map (λ l. growth (scaled s l)) row_lift rs)
 
 -- ---- room
 
