@@ -114,7 +114,7 @@ fn choose_next_fitting(
 {
     let rounds = survey::in_use(&t.new);
     lacking(rounds, words.len(), start, out.len())?;
-    let lifts = carry::remaining(sheet, *t);
+    let lifts = carry::remaining(sheet, t);
     let space = 3 * lifts + rounds + 1;
     if next.len() < space {
         return Err(Refusal::Next(space));

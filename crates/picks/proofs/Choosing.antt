@@ -1,12 +1,11 @@
 -- The choices gathered round by round are the panel's: those of the rounds before one, and the panel of the rounds from it on, are the whole.
 use Prim.Native.Nat.{ℕ, ◌+◌, ◌≤◌, ◌<◌}
 use mathlib.Core.Path.{◌≡◌, refl, sym, ap, ap₂, ◌∙◌}
-use mathlib.Core.Bool.{Bool, true, false}
+use mathlib.Core.Bool.{Bool, true}
 use mathlib.Core.List.{List, [], ◌∷◌, ◌++◌, append_assoc, append-nil}
-use native.Mathlib.Omega.{arith}
 use lib.Dec.{ltb}
 use lib.ListN.{length, set}
-use Rattle.std.specs.Prelude.{Option, None, Some, Result, Ok, Err}
+use Rattle.std.specs.Prelude.{Option, None, Some, Ok, Err}
 use Rattle.draw.specs.Draw.{largest, reached}
 use Rattle.draw.specs.Run.{Run, finished, short as ended, run, answer}
 use Rattle.round.specs.Choice.{Update, outcome as outcome_of, selected_by}

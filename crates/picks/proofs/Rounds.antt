@@ -5,11 +5,10 @@ use mathlib.Core.Bool.{Bool, true, false, cond}
 use mathlib.Core.List.Memᴰ
 use mathlib.Core.List.{List, [], ◌∷◌, map}
 use native.Mathlib.Nat.{mul-div_cancel_left}
-use native.Mathlib.Numerals.{add-one}
 use native.Mathlib.Omega.{arith}
 use lib.Dec.{eqb, ltb}
 use lib.ListN.{length, get_or, take, drop, length-drop}
-use Rattle.std.specs.Prelude.{Option, None, Some, IfSome, slice_get}
+use Rattle.std.specs.Prelude.{Some, IfSome, slice_get}
 use lib.Seq.{length-take-le}
 use borrow.Author.Tests.{eq-eqb, eqb-true, ltb-true, ltb-false, lt-ltb, le-ltb}
 use Rattle.probability.specs.Sum.{indicator}
@@ -32,6 +31,7 @@ use Rattle.sheet.specs.Sheet.{most_lifts, most_rounds, kind, payload, held_kind,
 use Rattle.tally.specs.Rounds.{lift_count, sum_of, donors, donor_number, of_round, held_at}
 use Rattle.tally.specs.Tables.{old_round, new_round, Tabled}
 use Rattle.tally.specs.declared.NewRound.{NewRound}
+use Rattle.tally.specs.declared.OldRound.{OldRound}
 use Rattle.tally.specs.declared.Tallies.{Tallies}
 use Rattle.rows.specs.Rows.{lifts_below, first_donors, row_of, round_at, Laid}
 use Rattle.rows.specs.declared.LaidRound.{LaidRound}
@@ -39,7 +39,7 @@ use Rattle.tally.specs.Law.{Fit}
 use Rattle.sheet.specs.Lift.{Old, New}
 use Rattle.rows.specs.declared.Layout.{Layout}
 use Rattle.tally.proofs.Ranges.{Rising}
-use Rattle.tally.proofs.Tables.{get_or_tabulate}
+use Rattle.tally.proofs.Tables.{tabulate_at}
 use Rattle.rows.proofs.Placing.{below_le, below_suc, named_length, row_number, row_held}
 use Rattle.selection.specs.Choice.{with_sums, donors_of, in_round, lifts_of, held_of_round, plan_of, no_lift, lift_in_round}
 use Rattle.selection.proofs.Held.{proper, held_exactly}
@@ -88,9 +88,16 @@ pub record Lent (ls : List Lift) (rows : List ℕ) (x : Layout) (t : Tallies) : 
   pub laid : Laid ls rows x
   pub tabled : Tabled ls t
 
+-- rounds without lifts
+abbrev no_old : OldRound
+no_old = record { lifts = 0; held = 0; sum = 0 }
+
+abbrev no_new : NewRound
+no_new = record { lifts = 0; sum = 0; donors = 0 }
+
 -- the sum of a new round in its table
 abbrev new_sum : List NewRound → ℕ → ℕ
-new_sum news r = (get_or news r (record { lifts = 0; sum = 0; donors = 0 })).sum
+new_sum news r = (get_or news r no_new).sum
 
 -- its rows, as a part of an array
 abbrev pub part_of : Layout → ℕ → List ℕ → List ℕ
@@ -183,7 +190,7 @@ module _ {ls : List Lift} {rows : List ℕ} {x : Layout} {t : Tallies} (d : Lent
   lifts_are = rw part_pieces (rows_lifts ls r (firsts_all (donors r ls) (donors_few d.fit low high)) ls)
 
   sum_is : (u : ℕ) → u ≤ most_rounds → old_sum t.old u ≡ sum_of Old u ls
-  sum_is u h = ap (λ olds. old_sum olds u) d.tabled.old ∙ ap (λ y. y.sum) (get_or_tabulate (most_rounds + 1) (old_round ls) u (omega arith))
+  sum_is u h = ap (λ olds. old_sum olds u) d.tabled.old ∙ ap (λ y. y.sum) (tabulate_at no_old (most_rounds + 1) (old_round ls) u (omega arith))
 
   -- and so are its sums
   sent_is : (k : ℕ) → k ≤ 2 → get_or round.sent k 0 ≡ U k (lifts_of r ls)
@@ -196,7 +203,7 @@ module _ {ls : List Lift} {rows : List ℕ} {x : Layout} {t : Tallies} (d : Lent
   sums_are ds f =
       rw (f, lifts_are)
       (record {
-        new = ap (λ news. new_sum news r) d.tabled.new ∙ ap (λ y. y.sum) (get_or_tabulate (most_rounds + 1) (new_round ls) r (omega arith)) ∙ sym (S_round d.fit low high);
+        new = ap (λ news. new_sum news r) d.tabled.new ∙ ap (λ y. y.sum) (tabulate_at no_new (most_rounds + 1) (new_round ls) r (omega arith)) ∙ sym (S_round d.fit low high);
         first = λ _. sent_is 1 (omega arith);
         second = λ _. sent_is 2 (omega arith);
       })

@@ -1,5 +1,5 @@
 -- The rounds of a sheet laid out as rows, and the choices of all rounds as the code gathers them.
-use Rattle.std.specs.Prelude.{ℕ, ◌≡◌, Option, None, Some, Result, Ok, Err, List, [], ◌∷◌, eqb, get_or, slice_get}
+use Rattle.std.specs.Prelude.{ℕ, ◌≡◌, Option, None, Some, Result, Ok, Err, List, [], ◌∷◌, eqb, get_or}
 use Rattle.probability.specs.Initial.{Initial, elsewhere}
 use Rattle.probability.specs.Pieces.{pieces}
 use Rattle.round.specs.Choice.{outcome}

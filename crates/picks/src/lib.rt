@@ -8,10 +8,10 @@ ghost use Rattle.round.specs.Choice.{Update, keyfitz, selected_by};
 ghost use Rattle.round.specs.Rows.{row_length, row_lifts as lifts_of_rows, initial_of, initials, Callable};
 ghost use Rattle.weights.specs.Scaling.{HasSums};
 ghost use Rattle.sheet.specs.Sheet.{most_rounds, lifts as lifts_of_sheet};
-ghost use Rattle.tally.specs.Tables.{Tabled, old_at};
+ghost use Rattle.tally.specs.Tables.{Tabled};
 ghost use Rattle.tally.specs.Law.{Fitting};
 ghost use Rattle.selection.specs.Choice.{with_sums, by_update, panel as panel_of};
-ghost use Rattle.picks.specs.Choosing.{donors_at, initial_by, initials_at, picked_at, picks_of, Behind};
+ghost use Rattle.picks.specs.Choosing.{donors_at, old_sum, initial_by, initials_at, picked_at, picks_of, Behind};
 
 use draw::Reader;
 use reply::Refusal;
@@ -63,7 +63,7 @@ impl Way for Fourth {
 fn donors_of(round: &LaidRound, old: &[OldRound; Sheet::TABLE]) -> Donors
     requires first_named { IfSome round.now.first (λ u. u ≤ most_rounds) }
     requires second_named { IfSome round.now.second (λ u. u ≤ most_rounds) }
-    ensures { result ≡ with_sums (map (λ t. (old_at old.now t).sum) (donors_at round.now)) }
+    ensures { result ≡ with_sums (map (old_sum old.now) (donors_at round.now)) }
 {
     match (round.first, round.second) {
         (None, _) => Donors::None,
@@ -152,7 +152,7 @@ fn select_rounds<W: Way>(
     ensures picked { result ≡ picks_of (panel_of (by_update W.update) (lifts_of_sheet sheet.now) words.old.words.now words.old.at) }
     ensures behind { Behind (panel_of (by_update W.update) (lifts_of_sheet sheet.now) words.old.words.now words.old.at) words.new.at }
 {
-    let layout = rows::lay_out(sheet, *t, rows);
+    let layout = rows::lay_out(sheet, t, rows);
     let mut picks = [None; Sheet::TABLE];
     for r in 1..Sheet::TABLE {
         let round = layout.rounds[r];

@@ -1,6 +1,6 @@
 -- `picks::mark_at` meets its contract: the library's chunks are the pieces. Assumes nothing.
-use Rattle.std.proofs.Common.{rules, get_or}
-use mathlib.Core.Path.{sym, ap, ◌∙◌}
+use Rattle.std.proofs.Common.{rules}
+use mathlib.Core.Path.{◌∙◌}
 use Rattle.round.specs.Rows.{row_length}
 use Rattle.probability.proofs.Pieces.{chunks_pieces}
 use Rattle.picks.proofs.mark_at.Goals as goal

@@ -1,8 +1,6 @@
 -- `picks::select_rounds` meets its contract: one law for each step of a round. Assumes nothing.
-use Prim.Native.Nat.{◌≤◌}
 use native.Mathlib.Omega.{arith}
-use mathlib.Core.Path.{refl, sym, ap, ◌∙◌}
-use Rattle.sheet.specs.Sheet.{most_rounds}
+use mathlib.Core.Path.{refl, ap, ◌∙◌}
 use Rattle.tally.proofs.Verdicts.{fit}
 use Rattle.picks.proofs.Rounds.{rises, few, part_end, filled, empty, named, sums_are, callable}
 use Rattle.picks.proofs.Choosing.{going_none, going_end, idle, on_none, on_some, stopped}
@@ -65,17 +63,17 @@ loop-r-preserved g c =
     let low = c.loop-r.auto.r in
     elim c.if-not-is_empty.branch [
       | then-not-is_empty+in-Some w ↦
-        record {
-          lent = l.lent;
-          going = rw (w.words-is, w.picks-is) (on_some _ l.lent l.going low (omega (arith, c.loop-r-test.true)) (filled c.is_empty.ensures w.if-not-is_empty.true) w.held_of.result w.donors_of.ensures w.held_of.ensures (ap (λ x. x.now) l.list) _ w.choose_lift.ensures.value w.in-Some.is);
-          list = rw w.words-is (w.choose_lift.ensures.list ∙ l.list);
-        }
+          record {
+            lent = l.lent;
+            going = rw (w.words-is, w.picks-is) (on_some _ l.lent l.going low (omega (arith, c.loop-r-test.true)) (filled c.is_empty.ensures w.if-not-is_empty.true) w.held_of.result w.donors_of.ensures w.held_of.ensures (ap (λ x. x.now) l.list) _ w.choose_lift.ensures.value w.in-Some.is);
+            list = rw w.words-is (w.choose_lift.ensures.list ∙ l.list);
+          }
       | else-not-is_empty w ↦
-        record {
-          lent = l.lent;
-          going = rw (w.words-is, w.picks-is) (idle _ l.lent l.going low (omega (arith, c.loop-r-test.true)) (empty c.is_empty.ensures w.if-not-is_empty.false));
-          list = rw w.words-is l.list;
-        }
+          record {
+            lent = l.lent;
+            going = rw (w.words-is, w.picks-is) (idle _ l.lent l.going low (omega (arith, c.loop-r-test.true)) (empty c.is_empty.ensures w.if-not-is_empty.false));
+            list = rw w.words-is l.list;
+          }
     ]
 
 pub returns-clause-picked : goal.returns-clause-picked
