@@ -10,13 +10,13 @@ use borrow.Author.Tests.{eq-eqb, ne_eqb}
 use borrow.Rule.Slice.PartMut.{put_mid}
 use Rattle.sheet.specs.Sheet.{most_lifts, most_rounds, end_kind, Lift, lifts, word, lift_words, words_then, sheet_of}
 use Rattle.sheet.specs.Reading.{Legible}
-use Rattle.sheet.specs.Lift.{entry_of, New}
+use Rattle.sheet.specs.Lift.{entry_of}
 use Rattle.sheet.specs.Law.{AllWellFormed, LiftWellFormed, WellFormed}
-use Rattle.tally.specs.Rounds.{lift_count}
 use Rattle.reply.specs.Reply.{onto}
-use Rattle.tally.specs.Tables.{table}
+use Rattle.tally.specs.Tables.{table, new_round}
+use Rattle.tally.specs.declared.NewRound.{NewRound}
 use Rattle.sheet.specs.declared.Entry.{Entry}
-use Rattle.tally.proofs.Tables.{get_or_tabulate}
+use Rattle.tally.proofs.Tables.{tabulate_at}
 use Rattle.sheet.proofs.Trips.{read_theorem}
 use Rattle.scan.specs.Lifts.{FirstLift}
 use Rattle.std.specs.Prelude.{Option, None}
@@ -28,8 +28,8 @@ use Rattle.carry.proofs.Rounds.{remaining_counts, remaining_few}
 -- ---- how many remain
 
 -- those of new round 0 and those that remain are all
-pub remaining_all : (ls : List Lift) {counts : List ℕ} → counts ≡ table (λ r. lift_count New r ls) → get_or counts 0 0 + length (remaining ls) ≡ length ls
-remaining_all ls e = rw (e, get_or_tabulate (most_rounds + 1) (λ r. lift_count New r ls) 0 (omega arith)) (remaining_counts ls)
+pub remaining_all : (ls : List Lift) {new : List NewRound} → new ≡ table (new_round ls) → (get_or new 0 (record { lifts = 0; sum = 0; donors = 0 })).lifts + length (remaining ls) ≡ length ls
+remaining_all ls e = rw (e, tabulate_at _ (most_rounds + 1) (new_round ls) 0 (omega arith)) (remaining_counts ls)
 
 -- the lifts that remain have room in the end word
 pub remaining_fit : {ws : List ℕ} → Legible ws → length (remaining (lifts ws)) ≤ most_lifts

@@ -15,12 +15,12 @@ use sheet::{Entry, Sheet};
 use tally::Tallies;
 
 // How many of a sheet's lifts have a new round, from its tables.
-pub fn remaining(sheet: &[u32], t: Tallies) -> usize
+pub fn remaining(sheet: &[u32], t: &Tallies) -> usize
     requires legible { Legible sheet.now }
-    requires tabled { Tabled (lifts_of_sheet sheet.now) t }
+    requires tabled { Tabled (lifts_of_sheet sheet.now) t.now }
     ensures { result ≡ length (remaining_of (lifts_of_sheet sheet.now)) }
 {
-    scan::size(sheet) - t.new_lifts[0] as usize
+    scan::size(sheet) - t.new[0].lifts as usize
 }
 
 // The word of a place.

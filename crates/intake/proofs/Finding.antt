@@ -1,21 +1,17 @@
 -- A lift's slot among slots whose numbers rise.
-use Prim.Native.Nat.{ℕ, zero, suc, ◌≤◌, ◌<◌}
+use Prim.Native.Nat.{ℕ, zero, suc, ◌+◌, ◌*◌, ◌-◌, ◌/◌, ◌^◌, ◌≤◌, ◌<◌}
 use mathlib.Core.Path.{◌≡◌, refl, sym, ◌∙◌}
 use mathlib.Core.Bool.{Bool, true, false, or-true}
 use mathlib.Core.List.{List, [], ◌∷◌}
 use native.Mathlib.Omega.{arith}
-use lib.Dec.{eqb, ltb}
+use lib.Dec.{eqb, leb, ltb}
 use lib.ListN.{length, get_or, length-map}
-use borrow.Author.Tests.{eqb-true, eqb-false, eq-eqb, ne_eqb, ltb-true, ltb-false}
-use Rattle.std.specs.Prelude.{None, Result, Ok, Err, MatchOption, HoldsAt}
-use Rattle.std.specs.Result.{result_ok}
-use Rattle.std.specs.List.Sorted.{IsSearchInRange, IsBinarySearchResult, IsNonDecreasingBy}
-use Rattle.std.specs.Ordering.{nat_cmp, ordering_index}
+use borrow.Author.Tests.{eqb-true, eqb-false, eq-eqb, ne_eqb, leb-true, leb-false, ltb-true, ltb-false}
+use Rattle.std.specs.Prelude.{None}
 use Rattle.std.proofs.Math.ListN.{get_or-map}
-use Rattle.std.proofs.lemmas.Cmp.{ranked}
-use Rattle.std.proofs.lemmas.Bool.Decides.{nat_tests}
-use Rattle.std.proofs.lemmas.List.Sorted.{IsNonDecreasingBy-from_default}
 use Rattle.probability.specs.Among.{among}
+use Rattle.probability.specs.Sum.{indicator}
+use Rattle.sheet.specs.Sheet.{most_lifts}
 use Rattle.intake.specs.Positions.{RisingAbove, slot_numbers}
 use Rattle.intake.specs.declared.lines.Slot.{Slot}
 
@@ -56,22 +52,67 @@ pub number_at : (ss : List Slot) (k : ℕ) → get_or (slot_numbers ss) k 0 ≡ 
 number_at ss k = get_or-map (λ s. s.number) ss k no_slot
 
 module _ (ss : List Slot) (n : ℕ) (up : RisingAbove 0 (slot_numbers ss)) where
+  rise_lt : (i j : ℕ) → i < j → j < length ss → (get_or ss i no_slot).number < (get_or ss j no_slot).number
+  rise_lt i j h l = rw (← number_at ss i, ← number_at ss j) (rising_lt 0 (slot_numbers ss) up i j h (omega (arith, length-map ss (λ s. s.number))))
+
   -- no number falls
   rises : (i j : ℕ) → i ≤ j → j < length ss → (get_or ss i no_slot).number ≤ (get_or ss j no_slot).number
-  rises i j h l = rw (← number_at ss i, ← number_at ss j) (go (eqb i j) refl)
+  rises i j h l = go (eqb i j) refl
     where
-      go : (t : Bool) → eqb i j ≡ t → get_or (slot_numbers ss) i 0 ≤ get_or (slot_numbers ss) j 0
+      go : (t : Bool) → eqb i j ≡ t → (get_or ss i no_slot).number ≤ (get_or ss j no_slot).number
       go true e = rw (eqb-true i j e) (omega arith)
-      go false e = let o = eqb-false i j e in let z = rising_lt 0 (slot_numbers ss) up i j (omega arith) (omega (arith, length-map ss (λ s. s.number))) in omega arith
+      go false e = let o = eqb-false i j e in let z = rise_lt i j (omega arith) l in omega arith
 
-  compared : IsNonDecreasingBy (λ s. ordering_index (nat_cmp s.number n)) ss
-  compared = IsNonDecreasingBy-from_default (λ s. ordering_index (nat_cmp s.number n)) ss no_slot (λ i j h l. let z = rises i j h l in grind (arith, nat_tests))
+  -- none has the number if each is below or above it
+  pub absent_lem : ((j : ℕ) → j < length ss → (get_or ss j no_slot).number ≡ n → ⊥) → among n (slot_numbers ss) ≡ false
+  absent_lem h = absent n (slot_numbers ss) (λ j l e. h j (omega (arith, l, length-map ss (λ s. s.number))) (sym (number_at ss j) ∙ e))
 
-  pub searched : (r : Result ℕ ℕ) → IsSearchInRange r (length ss) → IsBinarySearchResult (λ s. nat_cmp s.number n) ss r
-      → MatchOption (result_ok r) (among n (slot_numbers ss) ≡ false) (λ k. (k < length ss) × HoldsAt (λ s. s.number ≡ n) ss k)
-  searched (Ok k) inside equal = (inside, λ d. ranked _ n _ (sym (equal d)))
-  searched (Err i) inside parted = absent n (slot_numbers ss) (λ j l e. apart j (omega (arith, l, length-map ss (λ s. s.number))) (sym (number_at ss j) ∙ e) (ltb j i) refl)
+-- the number stands, if anywhere, from low up and below low + size
+pub record Narrowed (ss : List Slot) (n low size : ℕ) : Type 0 where
+  pub inside : low + size ≤ most_lifts
+  pub below : (j : ℕ) → j < low → (get_or ss j no_slot).number < n
+  pub above : (j : ℕ) → low + size ≤ j → j < length ss → n < (get_or ss j no_slot).number
+
+pub narrowed_none : (ss : List Slot) (n : ℕ) → length ss ≤ most_lifts → Narrowed ss n 0 4096
+narrowed_none ss n few = record { inside = omega arith; below = λ j h. absurd (omega arith); above = λ j h k. absurd (omega arith) }
+
+module _ {ss : List Slot} {n : ℕ} (up : RisingAbove 0 (slot_numbers ss)) {low size : ℕ} (d : Narrowed ss n low size) where
+  -- where the middle is beyond the slots
+  pub narrowed_past : 1 < size → length ss ≤ low + size / 2 → Narrowed ss n low (size - size / 2)
+  narrowed_past more h = record { inside = omega (arith, d.inside); below = d.below; above = λ j k m. absurd (omega arith) }
+
+  pub narrowed_turn : 1 < size → low + size / 2 < length ss → {t : ℕ} → t ≡ indicator (leb (get_or ss (low + size / 2) no_slot).number n) → Narrowed ss n (low + size / 2 * t) (size - size / 2)
+  narrowed_turn more room {t} f = rw f (go (leb (get_or ss (low + size / 2) no_slot).number n) refl)
     where
-      apart : (j : ℕ) → j < length ss → (get_or ss j no_slot).number ≡ n → (t : Bool) → ltb j i ≡ t → ⊥
-      apart j l e true q = let z = ranked _ n _ (sym ((parted compared).0 j no_slot (omega arith) (ltb-true j i q))) in omega arith
-      apart j l e false q = let z = ranked _ n _ (sym ((parted compared).1 j no_slot (ltb-false j i q) l)) in omega arith
+      go : (u : Bool) → leb (get_or ss (low + size / 2) no_slot).number n ≡ u → Narrowed ss n (low + size / 2 * indicator u) (size - size / 2)
+      go true q =
+          let l = leb-true _ _ q in
+          record {
+            inside = omega (arith, d.inside);
+            below = λ j h. let z = rise_lt ss n up j (low + size / 2) (omega arith) room in omega arith;
+            above = λ j h k. d.above j (omega arith) k;
+          }
+      go false q =
+          let l = leb-false _ _ q in
+          record {
+            inside = omega (arith, d.inside);
+            below = λ j h. d.below j (omega arith);
+            above = λ j h k. let z = rises ss n up (low + size / 2) j (omega arith) k in omega arith;
+          }
+
+  pub narrowed_end : size ≤ 1 → (low < length ss → (get_or ss low no_slot).number ≡ n → ⊥) → among n (slot_numbers ss) ≡ false
+  narrowed_end one o = absent_lem ss n up (λ j l e. go j l e (ltb j low) refl (eqb j low) refl)
+    where
+      go : (j : ℕ) → j < length ss → (get_or ss j no_slot).number ≡ n → (t : Bool) → ltb j low ≡ t → (u : Bool) → eqb j low ≡ u → ⊥
+      go j l e true q u v = let k = d.below j (ltb-true j low q) in omega arith
+      go j l e false q true v = let w = eqb-true j low v in o (omega arith) (rw w at e)
+      go j l e false q false v = let k = d.above j (omega (arith, one, ltb-false j low q, eqb-false j low v)) l in omega arith
+
+-- ---- at most, by a carry
+
+pub carried : (m n : ℕ) → m < 2 ^ 32 → n < 2 ^ 32 → (n + (2 ^ 32 - m)) / 2 ^ 32 ≡ indicator (leb m n)
+carried m n h k = go (leb m n) refl
+  where
+    go : (t : Bool) → leb m n ≡ t → (n + (2 ^ 32 - m)) / 2 ^ 32 ≡ indicator t
+    go true e = let l = leb-true m n e in omega arith
+    go false e = let l = leb-false m n e in omega arith

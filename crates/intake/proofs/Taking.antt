@@ -1,12 +1,12 @@
 -- The ways out of the call: the sheet lent, the lines, the result.
 use Prim.Native.Nat.{ℕ, zero, suc, ◌+◌, ◌≤◌}
-use mathlib.Core.Path.{◌≡◌, sym, ap, subst, ◌∙◌}
+use mathlib.Core.Path.{◌≡◌, refl, sym, ap, subst, ◌∙◌}
 use mathlib.Core.Bool.{Bool, true, false, cond, not, ◌&&◌}
 use mathlib.Core.List.{List, [], ◌∷◌}
 use native.Mathlib.Omega.{arith}
 use lib.ListN.{length, length-map}
 use Rattle.std.specs.Prelude.{All, IfSome}
-use Rattle.sheet.specs.Sheet.{largest_sum, Lift, lifts, sheet_of}
+use Rattle.sheet.specs.Sheet.{most_lifts, largest_sum, Lift, lifts, sheet_of}
 use Rattle.reply.specs.Reply.{numbered, replied, of_refusal}
 use Rattle.reply.proofs.Replies.{left}
 use Rattle.probability.specs.Among.{among}
@@ -61,6 +61,9 @@ module _ (ws text : List ℕ) {ss : List Slot} (l : Legible ws) (e : ss ≡ slot
 
   pub rising : RisingAbove 0 (slot_numbers ss)
   rising = subst (RisingAbove 0) (sym named) (numbers_rising 0 (lifts ws) (read_theorem ws l.read).well_formed.listed)
+
+  pub few_slots : length ss ≤ most_lifts
+  few_slots = omega (arith, ap length e ∙ length-map (numbers_of (lifts ws)) (slot []) ∙ length-map (lifts ws) (λ l. l.number), few l refl)
 
   pub no_line : ss ≡ slots (slot_numbers ss) []
   no_line = e ∙ ap (λ ns. slots ns []) (sym named)

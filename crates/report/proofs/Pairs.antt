@@ -10,18 +10,17 @@ use lib.Seq.{drop-cons}
 use Rattle.std.specs.Simd.{first_chunks}
 use Rattle.probability.specs.Pieces.{cut}
 use Rattle.probability.proofs.Lists.{All}
-use Rattle.probability.proofs.Pieces.{pieces_more}
+use Rattle.probability.proofs.Pieces.{chunks_pieces, pieces_more}
 use Rattle.sheet.specs.Sheet.{payload, place_of}
 use Rattle.sheet.proofs.Trips.{payload_word}
 use Rattle.selection.specs.Choice.{Choice, round_word, pair_of, written_pairs}
 use Rattle.selection.proofs.Choices.{Sound}
 use Rattle.report.specs.Report.{choice_line, choice_lines, pair_line, pair_lines}
-use Rattle.report.proofs.Decoding.{chunks_cut}
 
 -- the lines of the chunks that the code goes over
 pub chunk_lines : (ws : List ℕ) → flat_map pair_line (first_chunks 2 (length ws / 2) ws) ≡ pair_lines ws
 unfolding pair_lines
-chunk_lines ws = ap (flat_map pair_line) (chunks_cut 2 (length ws / 2) ws)
+chunk_lines ws = ap (flat_map pair_line) (chunks_pieces 2 ws)
 
 -- what is left is the line of the next pair and what is left behind it
 pub next_line : (pairs : List (List ℕ)) (k : ℕ) {round number outcome : ℕ} (d : List ℕ) → k < length pairs → round ≡ (place_of (get_or (get_or pairs k d) 0 0)).round

@@ -8,6 +8,7 @@ use lib.Dec.{eqb, ltb}
 use lib.ListN.{length, take}
 use lib.Seq.{take-take}
 use borrow.Author.Tests.{eq-eqb, ne_eqb, lt-ltb, le-ltb, eqb-true, ltb-false}
+use Rattle.std.proofs.lemmas.List.{take_min}
 use Rattle.sheet.specs.Sheet.{most_rounds, longest, lifts}
 use Rattle.reply.specs.Reply.{numbered, replied, of_refusal}
 use Rattle.reply.specs.Refusal.{refusal_of}
@@ -21,7 +22,7 @@ use Rattle.selection.proofs.Steps.{steps, steps_count, steps_between}
 use Rattle.selection.proofs.Choices.{rises_sound, panel_rises, few_rounds}
 use Rattle.report.specs.Report.{most_words, sheet_words, random_words, choice_lines, words_line, refused_line, text_of, report, pair_lines, text_room}
 use Rattle.report.proofs.Sizes.{chosen_le}
-use Rattle.report.proofs.Decoding.{take_min, random_first}
+use Rattle.report.proofs.Decoding.{random_first}
 use Rattle.report.proofs.Pairs.{pair_lines_lem}
 
 -- ---- the length
@@ -35,10 +36,10 @@ module _ (sheet : List ℕ) (size : ℕ) (words : List ℕ) where
   unfolding report
   report_long h l = rw (eq-eqb (size % 4) 0 h, lt-ltb longest (size / 4) l)
 
-  pub report_text : {n : ℕ} → n ≡ min (length sheet) size → size % 4 ≡ 0 → size / 4 ≤ longest
+  pub report_text : {n : ℕ} → n ≡ min size (length sheet) → size % 4 ≡ 0 → size / 4 ≤ longest
       → report sheet size words ≡ text_of (sheet_words (take n sheet)) (random_words words)
   unfolding report
-  report_text e h l = rw (eq-eqb (size % 4) 0 h, le-ltb longest (size / 4) l, e, take_min sheet size refl)
+  report_text e h l = rw (eq-eqb (size % 4) 0 h, le-ltb longest (size / 4) l, e, take_min size sheet)
 
   -- no byte behind the longest sheet and the first words matters
   pub report_first : report (take (4 * longest) sheet) size (take (8 * most_words) words) ≡ report sheet size words

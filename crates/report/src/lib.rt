@@ -5,7 +5,7 @@ ghost use Rattle.std.specs.Prelude.{◌≡◌, ◌/◌, ◌≤◌, length, take}
 ghost use Rattle.sheet.specs.Sheet.{longest};
 ghost use Rattle.report.specs.Report.{sheet_words, random_words, text_of, report as report_of};
 
-use reply::{Answer, Refusal};
+use reply::Refusal;
 use sheet::Sheet;
 use text::Text;
 use words::decode;
@@ -33,8 +33,8 @@ fn chosen_text(sheet: &[u8], words: &[u8]) -> Text
     let sheet = decode::<u32, 4>(sheet, &mut lent);
     let words = decode::<u64, 8>(words, &mut random);
     match panel::choose(sheet, words, 0, &mut out) {
-        Answer::Done(choices, read) => Text::chosen(&out[..2 * choices], read as u64),
-        Answer::Refused(refusal) => Text::refused(refusal),
+        Ok(done) => Text::chosen(&out[..2 * done.many], done.words as u64),
+        Err(refusal) => Text::refused(refusal),
     }
 }
 
@@ -48,7 +48,7 @@ fn whole_text(sheet: &[u8], size: usize, words: &[u8]) -> Text
     if Sheet::LONGEST < size / 4 {
         return Text::refused(Refusal::Length(size / 4));
     }
-    let kept = sheet.len().min(size);
+    let kept = size.min(sheet.len());
     chosen_text(&sheet[..kept], words)
 }
 

@@ -6,12 +6,14 @@ ghost use Rattle.report.specs.Report.{little_endian};
 
 // A word of N bytes.
 pub trait Word<const N: usize>: Copy {
+    // The word that N bytes stand for.
     ghost of_bytes: { List ℕ → Self };
 
-    // The word of some bytes.
+    // Reads it from the bytes.
     fn from_bytes(bytes: [u8; N]) -> Self
         ensures { result ≡ of_bytes bytes.entry };
 
+    // There are bytes, and few.
     ghost size: { (0 < N) × (N ≤ 8) };
 }
 
@@ -44,7 +46,7 @@ pub fn decode<'a, W: Word<N>, const N: usize>(bytes: &[u8], room: &'a mut [W]) -
     ensures { result.now ≡ take (length room.old) (map W.of_bytes (pieces N bytes.now)) }
 {
     let chunks = bytes.as_chunks::<N>().0;
-    let n = chunks.len().min(room.len());
+    let n = room.len().min(chunks.len());
     for (i, chunk) in chunks[..n].iter().enumerate() {
         room[i] = W::from_bytes(*chunk);
     }

@@ -111,7 +111,7 @@ module _ (ds : Donors) (ls : List Lift) (f : WellPosed ds ls) (xs : List Initial
       go true q = (knows ds ls (leb-true 1 (length (whole_sums ds)) q) f.donate).known.divisor
       go false q =
           let none = (stands_at (whole_sums ds) xs (length ls) s k).1 (omega (arith, leb-false 1 (length (whole_sums ds)) q)) in
-          let z : ◌≡◌ {A = ℕ} 0 1 = cc in absurd (omega arith)
+          absurd (cc)
 
   pub placed_preliminary : TakenBelow (length ls) (preliminary ds ls xs)
   unfolding preliminary_by

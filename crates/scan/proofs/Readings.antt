@@ -1,15 +1,16 @@
 -- The laws of a word's fault, by its kind, and of the loop over the words of a sheet: one for each way out of a turn, and two for the end.
-use Prim.Native.Nat.{ℕ, zero, suc, ◌+◌, ◌-◌, ◌*◌, ◌^◌, ◌≤◌, ◌<◌}
-use mathlib.Core.Path.{◌≡◌, refl, sym, ap, subst, ◌∙◌}
-use mathlib.Core.Bool.{Bool, true, false, cond, not, ◌&&◌, ◌||◌, true≢false}
+use Prim.Native.Nat.{ℕ, zero, suc, ◌+◌, ◌-◌, ◌≤◌, ◌<◌}
+use mathlib.Core.Path.{◌≡◌, refl, sym, ap, subst}
+use mathlib.Core.Bool.{Bool, true, false, cond}
+use Rattle.std.proofs.Math.Bool.{and-false}
 use mathlib.Core.List.{List, [], ◌∷◌}
 use native.Mathlib.Omega.{arith}
 use lib.Dec.{eqb}
 use lib.ListN.{length, get_or, take, drop}
 use Rattle.std.proofs.lemmas.List.{take_rest}
-use borrow.Author.Tests.{le-ltb, lt-leb, eq-eqb, ne_eqb, eqb-true}
-use Rattle.sheet.specs.Sheet.{most_rounds, largest_sum, not_counted, kind, payload, place_of, lift_kind, old_kind, new_kind, end_kind}
-use Rattle.sheet.specs.Reading.{ScanState, next_state, may_follow, misnumbered, is_place, misplaced, uncounted_newcomer, miscounted, mismarked, fault, Reading, faulty, sound, unless_fault, read_from, reading}
+use borrow.Author.Tests.{lt-leb, eq-eqb, ne_eqb}
+use Rattle.sheet.specs.Sheet.{largest_sum, not_counted, kind, payload, place_of, lift_kind, old_kind, new_kind, end_kind}
+use Rattle.sheet.specs.Reading.{ScanState, next_state, may_follow, misplaced, fault, Reading, faulty, sound, unless_fault, read_from, reading}
 use Rattle.reply.specs.Reply.{Numbered, numbered}
 
 -- a word's reading, then what follows if it is sound
@@ -22,58 +23,20 @@ unless_then : (n i : ℕ) (rest : Reading) → and_then (unless_fault n i sound)
 unless_then zero i rest = refl
 unless_then (suc n) i rest = refl
 
--- ---- a word's fault
-
--- of a word in sequence that holds a place, and of one that holds none
-module _ (s : ScanState) (w : ℕ) (f : may_follow s.kind (kind w) ≡ true) where
-  pub place_fault : is_place (kind w) ≡ true → fault s w ≡ cond (misplaced w) 4 (cond (uncounted_newcomer s w) 16 0)
-  unfolding fault
-  place_fault h = go (eqb (kind w) old_kind) refl
-    where
-      go : (t : Bool) → eqb (kind w) old_kind ≡ t → fault s w ≡ cond (misplaced w) 4 (cond (uncounted_newcomer s w) 16 0)
-      go true e = let k = eqb-true (kind w) old_kind e in rw (f, k)
-      go false e = let k = eqb-true (kind w) new_kind (rw e at h) in rw (f, k)
-
-  pub other_fault : is_place (kind w) ≡ false → fault s w ≡ cond (misnumbered s w) 3 (cond (miscounted s w) 5 (cond (mismarked s w) 6 0))
-  unfolding fault
-  other_fault h = go (eqb (kind w) old_kind) refl (eqb (kind w) new_kind) refl h
-    where
-      go : (a : Bool) → eqb (kind w) old_kind ≡ a → (b : Bool) → eqb (kind w) new_kind ≡ b → (a || b) ≡ false
-          → fault s w ≡ cond (misnumbered s w) 3 (cond (miscounted s w) 5 (cond (mismarked s w) 6 0))
-      go true p b q h = absurd (true≢false h)
-      go false p true q h = absurd (true≢false h)
-      go false p false q h = rw (f, p, q)
-
 -- ---- a lift's three words
 
 -- what is known of a word that holds a place of kind k and is counted
 abbrev Counted : (k w : ℕ) → Type 0
 Counted k w = (kind w ≡ k) × (misplaced w ≡ false) × ((place_of w).measure ≤ largest_sum)
 
--- nothing passes a test that fails
-neither : (t : Bool) → (t && false) ≡ false
-neither true = refl
-neither false = refl
-
-module _ (k w : ℕ) (small : (place_of w).measure ≤ largest_sum) where
-  -- a round that there is, and a measure only beside one
-  within : (place_of w).round ≤ most_rounds → (eqb (place_of w).round 0 && not (eqb (place_of w).measure 0)) ≡ false → misplaced w ≡ false
-  within l e = rw (le-ltb most_rounds (place_of w).round l, le-ltb largest_sum (place_of w).measure small, e) (neither (is_place (kind w)))
-
-  -- a word with a round, and one with neither round nor measure
-  pub with_round : k * 2 ^ 28 + 2 ^ 21 ≤ w → w < k * 2 ^ 28 + (most_rounds + 1) * 2 ^ 21 → Counted k w
-  with_round l h = (omega arith, within (omega arith) (rw (ne_eqb (place_of w).round 0 (omega arith))), small)
-
-  pub with_neither : w ≡ k * 2 ^ 28 → Counted k w
-  with_neither e = (omega arith, within (omega arith) (rw (eq-eqb (place_of w).round 0 (omega arith), eq-eqb (place_of w).measure 0 (omega arith))), small)
-
 -- words of a lift none of which is faulty
 pub sound_lift : (s : ScanState) (a b c : ℕ) → may_follow s.kind lift_kind ≡ true → kind a ≡ lift_kind → s.number < payload a → Counted old_kind b → Counted new_kind c
     → (fault s a ≡ 0) × (fault (next_state s a) b ≡ 0) × (fault (next_state (next_state s a) b) c ≡ 0)
+unfolding fault
 sound_lift s a b c f k n o p = (
-  rw (other_fault s a (rw k f) (rw k), k, ne_eqb (payload a) 0 (omega arith), lt-leb (payload a) s.number n),
-  rw (place_fault (next_state s a) b (rw (k, o.0)) (rw o.0), o.1, o.0),
-  rw (place_fault (next_state (next_state s a) b) c (rw (o.0, p.0)) (rw p.0), p.1, p.0, ne_eqb (place_of c).measure not_counted (omega arith), neither),
+  rw (k, f, ne_eqb (payload a) 0 (omega arith), lt-leb (payload a) s.number n),
+  let e = rw o.0 at o.1 in rw (k, o.0, e),
+  let e = rw p.0 at p.1 in rw (k, o.0, p.0, e, ne_eqb (place_of c).measure not_counted (omega arith), and-false),
 )
 
 -- ---- the loop
@@ -132,13 +95,12 @@ module _ {ws : List ℕ} {s : ScanState} where
     goes_on j n = one_turn first (rw here j) n
 
     -- three turns at once, each by a word that is not faulty
-    module _ {others : List ℕ} (e : others ≡ behind 1 rest) (m : 2 ≤ length others) where
-      pub goes_on_three : {t u v : ScanState}
-          → (fault s (get_or rest 0 0) ≡ 0) × (fault (next_state s (get_or rest 0 0)) (get_or others 0 0) ≡ 0) × (fault (next_state (next_state s (get_or rest 0 0)) (get_or others 0 0)) (get_or others 1 0) ≡ 0)
-          → t ≡ next_state s (get_or rest 0 0) → u ≡ next_state t (get_or others 0 0) → v ≡ next_state u (get_or others 1 0) → Kept ws v (behind 2 others)
-      goes_on_three f p q r =
-          let all : Kept ws s (get_or rest 0 0 ∷ get_or others 0 0 ∷ get_or others 1 0 ∷ behind 2 others) = subst (λ us. Kept ws s (get_or rest 0 0 ∷ us)) (sym e ∙ two_words others m) first in
-          one_turn (one_turn (one_turn all (rw f.0) p) (rw (p, f.1)) q) (rw (q, p, f.2)) r
+    pub goes_on_three : {t u v : ScanState} → 2 ≤ length (behind 1 rest)
+        → (fault s (get_or rest 0 0) ≡ 0) × (fault (next_state s (get_or rest 0 0)) (get_or (behind 1 rest) 0 0) ≡ 0) × (fault (next_state (next_state s (get_or rest 0 0)) (get_or (behind 1 rest) 0 0)) (get_or (behind 1 rest) 1 0) ≡ 0)
+        → t ≡ next_state s (get_or rest 0 0) → u ≡ next_state t (get_or (behind 1 rest) 0 0) → v ≡ next_state u (get_or (behind 1 rest) 1 0) → Kept ws v (behind 2 (behind 1 rest))
+    goes_on_three m f p q r =
+        let all : Kept ws s (get_or rest 0 0 ∷ get_or (behind 1 rest) 0 0 ∷ get_or (behind 1 rest) 1 0 ∷ behind 2 (behind 1 rest)) = subst (λ us. Kept ws s (get_or rest 0 0 ∷ us)) (two_words (behind 1 rest) m) first in
+        one_turn (one_turn (one_turn all (rw f.0) p) (rw (p, f.1)) q) (rw (q, p, f.2)) r
 
   -- past the last word the kind decides
   last : {rest : List ℕ} → length rest < 1 → Kept ws s rest → cond (eqb s.kind end_kind) sound (faulty (numbered 2 (length ws))) ≡ reading ws
@@ -151,3 +113,6 @@ module _ {ws : List ℕ} {s : ScanState} where
 
   pub stays_open : {rest : List ℕ} → length rest < 1 → Kept ws s rest → (s.kind ≡ end_kind → ⊥) → faulty (numbered 2 (length ws)) ≡ reading ws
   stays_open h k e = rw (ne_eqb _ _ e) at (last h k)
+
+-- what proves the turns and the ends of the loop: `search turns`
+pub ruleset turns = (stops, goes_on, goes_on_three, ends, stays_open)

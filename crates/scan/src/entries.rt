@@ -53,8 +53,9 @@ pub fn size(sheet: &[u32]) -> usize
     Sheet::payload(sheet[sheet.len() - 1]) as usize
 }
 
-// The words behind those of a held lift. Few lifts are held: where the way to them is told to be rare, the walk needn't wait to know its next step.
+// The words behind those of a held lift: a rare way, kept out of the loop, so that the walk goes on before the word is read that says whether a lift is held.
 #[cold]
+#[inline(never)]
 fn behind_held<'a>(words: &'a [u32]) -> &'a [u32]
     requires { 3 < length words.now }
     ensures { result.now ≡ drop 4 words.now }

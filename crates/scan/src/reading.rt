@@ -45,6 +45,7 @@ fn is_sound_lift(s: State, lift: u32, old: u32, new: u32) -> bool
 }
 
 // The first faulty word of words that are not too many; three sound words of a lift are read in one turn.
+#[tactic(auto, using(crate::proofs::Readings::turns))]
 fn read_words(sheet: &[u32]) -> Result<(), Refusal>
     requires { length sheet.now ≤ longest }
     ensures { reading_of result ≡ reading sheet.now }

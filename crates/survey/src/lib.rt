@@ -44,11 +44,8 @@ fn survey(sheet: &[u32]) -> Tallies
     ensures { Tabled (lifts sheet.now) result }
 {
     let mut tables = Tallies::EMPTY;
-    let last = sheet.len() - 1;
-    let mut i = 0;
-    while i < last {
-        add(&mut tables, scan::entry_at(sheet, i));
-        i += 3 + scan::marks(sheet, i);
+    for l in scan::lifts(sheet) {
+        add(&mut tables, l);
     }
     tables
 }
@@ -115,10 +112,8 @@ pub fn examine(sheet: &[u32]) -> Result<Examined, Refusal>
 pub fn with_donors(e: &Examined) -> Result<Sheet, Refusal>
     ensures { (ws : List ℕ) → FitsWithTables ws e.now → verdict_of result ≡ verdict ws }
 {
-    match first_round(
-        &e.tallies.new,
-        |n| 0 < n.lifts && 3 <= n.donors.count_ones(),
-    ) {
+    let new = &e.tallies.new;
+    match first_round(new, |n| 0 < n.lifts && 3 <= n.donors.count_ones()) {
         Some(r) => Err(Refusal::TooManyDonors(r)),
         None => Ok(e.sheet),
     }

@@ -4,7 +4,7 @@ use lib.Seq.{length-take-le}
 use Rattle.std.proofs.lemmas.Result.{err_from_is_err_and}
 use Rattle.sheet.proofs.Legibility.{legible_words}
 use Rattle.counts.proofs.Taken.{takes}
-use Rattle.intake.proofs.Taking.{few, rising, no_line, at_word, at_line_lem, taken_small, taken_long, at_refused, at_fits}
+use Rattle.intake.proofs.Taking.{few, few_slots, rising, no_line, at_word, at_line_lem, taken_small, taken_long, at_refused, at_fits}
 use Rattle.intake.proofs.take.Goals as goal
 
 pub returns-in_err-read : goal.returns-in_err-read
@@ -25,7 +25,7 @@ number_lifts-requires-clause-slots_len c = length-take-le _ _ (few (legible_word
 pub gather-requires : goal.gather-requires
 gather-requires c =
     let l = legible_words (sym c.in_ok-read.ensures) in
-    record { rising = rising c.args.sheet.now c.args.text.now l c.number_lifts.ensures; empty = no_line c.args.sheet.now c.args.text.now l c.number_lifts.ensures }
+    record { few = few_slots c.args.sheet.now c.args.text.now l c.number_lifts.ensures; rising = rising c.args.sheet.now c.args.text.now l c.number_lifts.ensures; empty = no_line c.args.sheet.now c.args.text.now l c.number_lifts.ensures }
 
 pub returns-in_err-many : goal.returns-in_err-many
 returns-in_err-many c =

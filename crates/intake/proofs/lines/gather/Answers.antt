@@ -14,7 +14,7 @@ returns-in_err-line c =
     rw (p.1, p.2, q.1) (kept_malformed c.loop-rest.invariant (search rules) q.0)
 
 pub find-requires : goal.find-requires
-find-requires c = subst (RisingAbove 0) (sym (kept_numbers c.loop-rest.invariant)) c.requires.rising
+find-requires c = record { few = search rules; rising = subst (RisingAbove 0) (sym (kept_numbers c.loop-rest.invariant)) c.requires.rising }
 
 pub returns-in_err-k : goal.returns-in_err-k
 returns-in_err-k c =
