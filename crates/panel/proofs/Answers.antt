@@ -7,11 +7,11 @@ use native.Mathlib.Omega.{arith}
 use lib.Dec.{ltb}
 use lib.ListN.{length}
 use borrow.Author.Tests.{ltb-false, lt-ltb, le-ltb}
-use Rattle.std.specs.Prelude.{Option, IfSome, Result, Ok, Err}
+use Rattle.std.specs.Prelude.{Option, IfSome, Ok, Err}
 use Rattle.sheet.specs.Sheet.{Lift, lifts}
 use Rattle.reply.proofs.Replies.{left}
 use Rattle.reply.specs.Reply.{Numbered, numbered, replied, of_refusal, unless_refused}
-use Rattle.reply.specs.Refusal.{refusal_of, refused_or}
+use Rattle.reply.specs.Refusal.{refusal_of}
 use Rattle.reply.specs.declared.Reply.{Reply}
 use Rattle.reply.specs.declared.Refusal.{Refusal}
 use Rattle.reply.specs.declared.Refusal.TheVariants.{Words}
@@ -100,7 +100,7 @@ module _ (n words start room : ℕ) where
     enough otherwise h = rw (le-ltb words start a, le-ltb room (2 * n) h)
 
   -- nothing is lacking where the answer is Ok
-  pub suffices : {A : Type 0} {a : A} → ((otherwise : Reply) → refused_or (Ok {E = Refusal} a) otherwise ≡ unless_lacking n words start room otherwise) → (start ≤ words) × (2 * n ≤ room)
+  pub suffices : ((otherwise : Reply) → otherwise ≡ unless_lacking n words start room otherwise) → (start ≤ words) × (2 * n ≤ room)
   suffices e = go (ltb words start) refl (ltb room (2 * n)) refl (ap (λ r. r.number) (e (replied 0 0)))
     where
       go : (s : Bool) → ltb words start ≡ s → (t : Bool) → ltb room (2 * n) ≡ t

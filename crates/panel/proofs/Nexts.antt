@@ -17,19 +17,25 @@ use Rattle.selection.specs.Choice.{fourth, Panel, chosen, short, panel, of_panel
 use Rattle.carry.specs.Next.{remaining, carried_on, in_table, next_sheet, words_needed}
 use Rattle.carry.specs.Reply.{of_lent_next, reply_next, output_next, carried_to, lent_sheet}
 use Rattle.carry.proofs.Carrying.{carries}
-use Rattle.std.specs.Prelude.{Option, None, Some, Result, Ok, Err}
+use Rattle.std.specs.Prelude.{Option, Err}
 use Rattle.selection.specs.declared.Pick.{Pick}
 use Rattle.picks.specs.Choosing.{picks_of}
 use Rattle.reply.specs.declared.Refusal.{Refusal}
 use Rattle.selection.proofs.Choices.{panel_rises}
 use Rattle.panel.proofs.Answers.{Gathered, left_panel, enough}
-use Rattle.reply.proofs.Replies.{left}
+use Rattle.reply.specs.Refusal.{refusal_of}
+use Rattle.reply.proofs.Replies.{left, above_refusal}
 use Rattle.panel.proofs.Carried.{table_next}
 
 -- a refusal leaves both
 pub both_left : {y z : Reply} (out new next newer : List ℕ) → (y.number ≡ 0 → ⊥) → y ≡ z
     → (y ≡ z) × ((out ≡ unless_refused z out new) × (next ≡ unless_refused z next newer))
 both_left out new next newer h e = (e, ((left out new h e).1, (left next newer h e).1))
+
+-- and so does a call's
+pub both_refused : (x : Refusal) {z : Reply} (out new next newer : List ℕ) → of_refusal (refusal_of x) ≡ z
+    → (of_refusal (refusal_of x) ≡ z) × ((out ≡ unless_refused z out new) × (next ≡ unless_refused z next newer))
+both_refused x out new next newer e = both_left out new next newer (λ z. omega (arith, z, above_refusal x)) e
 
 -- the lent sheet of choices that are a panel's
 module _ {ls : List Lift} (f : Fit ls) (ws : List ℕ) (start : ℕ) {picks : List (Option Pick)} {at : ℕ} (g : Gathered fourth ls ws start picks at) where

@@ -12,7 +12,7 @@ use Rattle.std.specs.Prelude.{Option, None, Some}
 use Rattle.sheet.specs.Sheet.{most_rounds}
 use Rattle.selection.specs.declared.Pick.{Pick}
 use Rattle.selection.specs.Choice.{Choice, pick_of, by_round, none_chosen, pair, written_pairs}
-use Rattle.selection.proofs.Choices.{Sound, Rises}
+use Rattle.selection.proofs.Choices.{Rises}
 use Rattle.selection.proofs.Tables.{none_chosen_at, length_by_round, by_round_below, by_round_first}
 use Rattle.panel.specs.Writing.{pairs_from, pairs}
 

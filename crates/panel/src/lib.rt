@@ -82,12 +82,7 @@ fn choose_by<W: Way>(
 
 // The whole choice by the fourth procedure: refused, with nothing written and no word used up, or one lift for each new round, written
 // as pairs.
-pub fn choose(
-    sheet: &[u32],
-    words: &[u64],
-    start: usize,
-    out: &mut [u32],
-) -> Result<Done, Refusal>
+pub fn choose(sheet: &[u32], words: &[u64], start: usize, out: &mut [u32]) -> Result<Done, Refusal>
     ensures replied { reply_of result ≡ reply fourth sheet.now words.now start (length out.old) }
     ensures written { out.new ≡ output fourth sheet.now words.now start out.old }
     ensures fair { Fitting sheet.now → Fair fourth (lifts_of_sheet sheet.now) }

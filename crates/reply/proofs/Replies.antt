@@ -4,7 +4,7 @@ use mathlib.Core.Path.{◌≡◌}
 use mathlib.Core.List.{List}
 use native.Mathlib.Omega.{arith}
 use borrow.Author.Tests.{ne_eqb}
-use Rattle.reply.specs.Reply.{unless_refused}
+use Rattle.reply.specs.Reply.{of_refusal, unless_refused}
 use Rattle.reply.specs.declared.Reply.{Reply}
 use Rattle.reply.specs.Refusal.{refusal_of}
 use Rattle.reply.specs.declared.Refusal.{Refusal}
@@ -33,3 +33,7 @@ above_refusal (Form place) = omega arith
 above_refusal (Lift place) = omega arith
 above_refusal (Uncounted place) = omega arith
 above_refusal (Next place) = omega arith
+
+-- a call's refusal leaves the list as it was
+pub left_refused : (x : Refusal) {z : Reply} (out new : List ℕ) → of_refusal (refusal_of x) ≡ z → (of_refusal (refusal_of x) ≡ z) × (out ≡ unless_refused z out new)
+left_refused x out new e = left out new (λ z. omega (arith, z, above_refusal x)) e
