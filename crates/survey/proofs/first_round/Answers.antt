@@ -1,3 +1,4 @@
+-- `survey::first_round` meets its contract: what the chain finds in the table without round 0 is the first round that passes. Assumes nothing.
 use mathlib.Core.Path.{◌≡◌, refl, ap, ◌∙◌}
 use Rattle.std.proofs.Common.{rules, position, drop, option_map}
 use Rattle.std.proofs.lemmas.Iterator.{YieldsList-from_slice}
