@@ -21,9 +21,6 @@ tabulate_at d zero f k h = absurd (omega arith)
 tabulate_at d (suc n) f zero h = refl
 tabulate_at d (suc n) f (suc k) h = tabulate_at d n (λ i. f (suc i)) k (omega arith)
 
-pub get_or_tabulate : (n : ℕ) (f : ℕ → ℕ) (k : ℕ) → k < n → get_or (tabulate n f) k 0 ≡ f k
-get_or_tabulate = tabulate_at 0
-
 pub length_tabulate : {A : Type 0} (n : ℕ) (f : ℕ → A) → length (tabulate n f) ≡ n
 unfolding tabulate
 length_tabulate zero f = refl
