@@ -1,16 +1,34 @@
--- A search from round 1 up finds the first round that passes, or none.
-use Rattle.std.specs.Prelude.{Some, None}
-use Prim.Native.Nat.{ℕ, ◌≤◌, ◌<◌}
-use mathlib.Core.Path.{◌≡◌, ap}
-use mathlib.Core.Bool.{Bool, true}
+-- A search among the rounds from 1 up finds the first round that passes, or none.
+use Rattle.std.specs.Prelude.{Some, Option, option_map, position}
+use Rattle.std.specs.List.{position_from}
+use Rattle.std.proofs.lemmas.Iterator.Adapters.{position_from-zero}
+use Prim.Native.Nat.{ℕ, suc, ◌+◌, ◌<◌}
+use native.Mathlib.Numerals.{add-one}
+use native.Mathlib.Omega.{arith}
+use mathlib.Core.Path.{◌≡◌, refl, sym, ap, ◌∙◌}
+use mathlib.Core.Bool.{Bool, true, false, cond}
+use mathlib.Core.List.{List, [], ◌∷◌}
+use lib.ListN.{length, get_or, drop}
 use Rattle.sheet.specs.Sheet.{most_rounds}
-use Rattle.tally.specs.Rounds.{rounds}
+use Rattle.tally.specs.Rounds.{filter_range, rounds}
 use Rattle.tally.specs.Tables.{found_first}
-use Rattle.tally.proofs.Ranges.{Sought, sought_here, sought_end}
 
-module _ {p : ℕ → Bool} {r : ℕ} where
-  pub found : {t : Bool} → Sought p 1 r → r ≤ most_rounds → t ≡ p r → t ≡ true → Some r ≡ found_first (rounds p)
-  found d h e q = ap found_first (sought_here d h e q)
+-- along the table from entry i + 1 up
+sought : {A : Type 0} (p : A → Bool) (d : A) (q : ℕ → Bool) (i : ℕ) (ys : List A) → ((k : ℕ) → k < length ys → q (suc (i + k)) ≡ p (get_or ys k d))
+    → option_map (λ k. k + 1) (position_from p i ys) ≡ found_first (filter_range q (suc i) (length ys))
+unfolding filter_range
+sought p d q i [] h = refl
+sought p d q i (y ∷ ys) h =
+    let e : suc (i + 0) ≡ suc i = omega arith in
+    rw (sym (ap q e) ∙ h 0 (omega arith), add-one i)
+    (go (p y) _ _ (sought p d q (suc i) ys (λ k l. let e : suc (suc i + k) ≡ suc (i + suc k) = omega arith in ap q e ∙ h (suc k) (omega arith))))
+  where
+    go : (b : Bool) (o : Option ℕ) (rs : List ℕ) → option_map (λ k. k + 1) o ≡ found_first rs → option_map (λ k. k + 1) (cond b (Some i) o) ≡ found_first (cond b (suc i ∷ rs) rs)
+    go true o rs e = ap Some (add-one i)
+    go false o rs e = e
 
-  pub missed : most_rounds < r → Sought p 1 r → None ≡ found_first (rounds p)
-  missed h d = ap found_first (sought_end h d)
+pub found : {A : Type 0} (p : A → Bool) (d : A) (xs : List A) → length xs ≡ most_rounds + 1 → option_map (λ k. k + 1) (position p (drop 1 xs)) ≡ found_first (rounds (λ r. p (get_or xs r d)))
+found p d [] e = absurd (omega arith)
+found p d (x ∷ xs) e =
+    let l : length xs ≡ most_rounds = omega arith in
+    ap (option_map (λ k. k + 1)) (position_from-zero p xs) ∙ rw l at (sought p d (λ r. p (get_or (x ∷ xs) r d)) 0 xs (λ k h. let z : 0 + k ≡ k = omega arith in ap (λ j. p (get_or xs j d)) z))

@@ -54,15 +54,10 @@ fn survey(sheet: &[u32]) -> Tallies
 
 // The first round from 1 up that passes a test.
 fn first_round<R, F: Fn(&R) -> bool>(table: &[R; Sheet::TABLE], test: F) -> Option<usize>
-    requires { F.IsAlwaysCallable test }
+    requires { (f : _) (x : _) → F.FnMut.pre f x }
     ensures { (p : R → Bool) → ((x : R) (b : Bool) → FnReturnsAt F.Fn test x b → b ≡ p x) → (d : R) → result ≡ first_of (rounds (λ r. p (get_or table.now r d))) }
 {
-    for r in 1..Sheet::TABLE {
-        if test(&table[r]) {
-            return Some(r);
-        }
-    }
-    None
+    table.iter().skip(1).position(test).map(|k| k + 1)
 }
 
 // How many new rounds are in use.

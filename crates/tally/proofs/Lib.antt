@@ -1,7 +1,6 @@
 pub mod Tables
 pub mod Bits
 pub mod Ranges
-pub mod Filling
 pub mod Sending
 pub mod Adding
 pub mod Numbers

@@ -186,23 +186,3 @@ unfolding filter_range
 from_none p r h =
     let e : most_rounds + 1 - r ≡ 0 = omega arith in
     rw e
-
--- a search from a number up: what passes from t up is all that passes
-pub record Sought (p : ℕ → Bool) (start t : ℕ) : Type 0 where
-  pub same : from p t ≡ from p start
-
-pub sought_none : (p : ℕ → Bool) (start : ℕ) → Sought p start start
-sought_none p start = record { same = refl }
-
-module _ {p : ℕ → Bool} {start t : ℕ} {x : Bool} (s : Sought p start t) (h : t ≤ most_rounds) (e : x ≡ p t) where
-  -- t is the first
-  pub sought_here : x ≡ true → t ∷ from p (t + 1) ≡ from p start
-  sought_here q = rw (from_step p t h, ← e, q) at s.same
-
-  -- the first comes later
-  pub sought_turn : x ≡ false → Sought p start (t + 1)
-  sought_turn q = record { same = rw (from_step p t h, ← e, q) at s.same }
-
--- there is none
-pub sought_end : {p : ℕ → Bool} {start t : ℕ} → most_rounds < t → Sought p start t → [] ≡ from p start
-sought_end {p} {start} {t} h s = rw (from_none p t h) at s.same

@@ -1,23 +1,20 @@
-use mathlib.Core.Path.{◌≡◌, refl, sym, ap, ◌∙◌}
-use native.Mathlib.Omega.{arith}
-use lib.ListN.{get_or}
-use Rattle.std.proofs.lemmas.List.{get_or_read}
-use Rattle.tally.proofs.Ranges.{sought_none, sought_turn}
-use Rattle.survey.proofs.Searches.{found, missed}
+-- `survey::first_round` meets its contract: what the chain finds in the table without round 0 is the first round that passes. Assumes nothing.
+use mathlib.Core.Path.{◌≡◌, refl, ap, ◌∙◌}
+use Rattle.std.proofs.Common.{rules, position, drop, option_map}
+use Rattle.std.proofs.lemmas.Iterator.{YieldsList-from_slice}
+use Rattle.std.proofs.lemmas.Iterator.Adapters.{YieldsList-from_skip}
+use Rattle.std.proofs.lemmas.Iterator.Search.{position_from_yields_List}
+use Prim.Native.Nat.{◌+◌}
+use Rattle.survey.proofs.Searches.{found}
 use Rattle.survey.proofs.first_round.Goals as goal
 
-pub loop-r-init : goal.loop-r-init
-loop-r-init g c = λ p h d. sought_none _ _
-
-pub returns-then-test : goal.returns-then-test
-returns-then-test g c = λ p h d.
-    let e : c.test.result ≡ p (get_or c.args.table.now c.loop-r.r d) = h (get_or c.args.table.now c.loop-r.r c.index-table-r.result) c.test.result (record { shown = _; shows = refl; says = record { met = c.test.ensures } }) ∙ ap p (sym c.index-table-r.is ∙ get_or_read c.args.table.now c.loop-r.r c.index-table-r.result (omega arith) c.index-table-r.is d) in
-    found (c.loop-r.invariant p h d) (omega arith) e c.if-test.true
-
-pub loop-r-preserved : goal.loop-r-preserved
-loop-r-preserved g c = λ p h d.
-    let e : c.test.result ≡ p (get_or c.args.table.now c.loop-r.r d) = h (get_or c.args.table.now c.loop-r.r c.index-table-r.result) c.test.result (record { shown = _; shows = refl; says = record { met = c.test.ensures } }) ∙ ap p (sym c.index-table-r.is ∙ get_or_read c.args.table.now c.loop-r.r c.index-table-r.result (omega arith) c.index-table-r.is d) in
-    sought_turn (c.loop-r.invariant p h d) (omega arith) e c.if-test.false
-
 pub returns : goal.returns
-returns g c = λ p h d. missed (omega arith) (c.loop-r.invariant p h d)
+returns g c = λ p h d.
+    let k : c.position.result ≡ position p (drop 1 c.args.table.now) =
+    position_from_yields_List p c.position.new.self c.args.test c.position.result c.position.ensures.ran (YieldsList-from_skip 1 (YieldsList-from_slice c.args.table.now (cc)) c.skip.ensures.count)
+    (λ x b q k. (
+      g.met.F.Fn.1.step_stays c.args.test (x, tt) b q (record { met = k.met }),
+      h x.now b (record { shown = x; shows = refl; says = record { met = (g.met.F.FnMut.1.post_iff c.args.test (x, tt) b).1 (q, record { met = k.met }) } }),
+    )) in
+    let m : c.map.result ≡ option_map (λ i. i + 1) c.position.result = search rules in
+    m ∙ ap (option_map (λ i. i + 1)) k ∙ found p d c.args.table.now c.type_inv.table
