@@ -20,8 +20,8 @@ fn at_most(m: u32, n: u32) -> usize
     ((u64::from(n) + ((1 << 32) - u64::from(m))) >> 32) as usize
 }
 
-// Where a number stands among rising numbers: a binary search without branches and with as many steps for any of them; the library's takes
-// a third longer.
+// Where a number stands among rising numbers: a binary search without branches and with as many steps for any of them, which is faster here
+// than the library's.
 fn find(numbers: &[u32], n: u32) -> Option<usize>
     requires few { length numbers.now ≤ most_lifts }
     requires rising { RisingAbove 0 numbers.now }

@@ -1,10 +1,7 @@
 use Rattle.std.proofs.Common.{rules}
-use Rattle.intake.proofs.Finding.{narrowed_none, narrowed_past, narrowed_turn, narrowed_end}
+use Rattle.intake.proofs.Finding.{narrowed_past, narrowed_turn, narrowed_end}
 use Rattle.intake.proofs.lines.find.Goals as goal
 use Rattle.intake.proofs.lines.find.Goals.{then-low-half, else-low-half}
-
-pub loop-size-init : goal.loop-size-init
-loop-size-init c = narrowed_none _ _ c.requires.few
 
 pub loop-size-preserved : goal.loop-size-preserved
 loop-size-preserved c =
