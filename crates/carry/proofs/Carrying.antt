@@ -132,7 +132,7 @@ module _ (ls : List Lift) (f : Fit ls) {ws : List ℕ} {start next : ℕ} {cs : 
   writes vs at out a b = rw (replies vs at (length out) a b, back, keeps vs at)
 
 pub carries : CarriesTheorem
-carries ls f ws start next cs e =
+carries ls f ws start behind cs e =
     let k = steps fourth ls ws start (in_use New ls) e in
     record {
       back = back ls f k;

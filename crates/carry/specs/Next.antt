@@ -1,9 +1,10 @@
 -- Next quarter's sheet: "Write the choices as a sheet" (Card 3 of document 02).
-use Rattle.std.specs.Prelude.{ℕ, ◌+◌, ◌*◌, Bool, cond, List, [], ◌∷◌, map, eqb, length, get_or}
+use Rattle.std.specs.Prelude.{ℕ, ◌+◌, ◌*◌, Bool, false, cond, Option, None, Some, List, [], ◌∷◌, map, eqb, length, get_or}
 use Rattle.probability.specs.Among.{among}
-use Rattle.sheet.specs.Sheet.{not_counted, Place, Lift, words_then, sheet_of}
+use Rattle.sheet.specs.Sheet.{not_counted, Place, Lift, sheet_of}
 use Rattle.sheet.specs.Lift.{place_at, New}
 use Rattle.selection.specs.Choice.{Choice}
+use Rattle.selection.specs.declared.Pick.{Pick}
 
 -- "lifts in order, withdrawn ones left out": those of a new round
 unfoldable pub remaining : List Lift → List Lift
@@ -38,12 +39,13 @@ next_sheet cs ls = sheet_of (next_lifts cs ls)
 abbrev pub words_needed : List Lift → ℕ → ℕ
 words_needed ls rounds = 3 * length (remaining ls) + rounds + 1
 
--- ---- as the code finds and writes it
+-- ---- as the code finds it
 
--- whether a lift is its new round's choice, from the numbers of the lifts chosen by round
-abbrev pub in_table : List ℕ → Lift → Bool
-in_table table l = eqb (get_or table l.new.round 0) l.number
+-- whether there is a lift chosen and it has this number
+abbrev pub has_number : Option Pick → ℕ → Bool
+has_number None n = false
+has_number (Some p) n = eqb p.number n
 
--- the words that a lift has in next quarter's sheet, none where it is withdrawn
-unfoldable pub words_on : (Lift → Bool) → Lift → List ℕ
-words_on held l = words_then (carried_on held (l ∷ [])) []
+-- whether a lift is its new round's choice, from the lifts chosen by round
+abbrev pub in_table : List (Option Pick) → Lift → Bool
+in_table table l = has_number (get_or table l.new.round None) l.number

@@ -13,7 +13,7 @@ use Rattle.draw.specs.Run.{Run, finished, short, extend_run, follow, run}
 
 drawn_between : (m b i : ℕ) (ws : List ℕ) {v next : ℕ} → draw_from m b i ws ≡ Some (v, next) → (i ≤ next) × (next ≤ i + length ws)
 unfolding draw_from
-drawn_between m b i [] e = let z : ◌≡◌ {A = ℕ} 0 1 = cc in absurd (omega arith)
+drawn_between m b i [] e = absurd (cc)
 drawn_between m b i (w ∷ ws) {v} {next} e = go (ltb w (K m b * b)) e (drawn_between m b (i + 1) ws)
   where
     go : (t : Bool) → cond t (Some (w % b, i + 1)) (draw_from m b (i + 1) ws) ≡ Some (v, next)
@@ -34,10 +34,10 @@ run_between {A} m ws from (draw b k) {vs} {a} {next} e = go (draw_at m ws from b
         let r = rest us x in
         let k = drawn_between m b from (drop from ws) d in
         (omega (arith, k.0, r.0), λ h. r.1 (omega (arith, k.1, length-drop from ws)))
-    behind v n short q d rest = let z : ◌≡◌ {A = ℕ} 0 1 = cc in absurd (omega arith)
+    behind v n short q d rest = absurd (cc)
 
     go : (x : Option (ℕ × ℕ)) → draw_at m ws from b ≡ x → follow x (λ v n. run m ws n (k v)) ≡ finished vs a next
         → ((v n : ℕ) (us : List ℕ) → run m ws n (k v) ≡ finished us a next → (n ≤ next) × (n ≤ length ws → next ≤ length ws))
         → (from ≤ next) × (from ≤ length ws → next ≤ length ws)
     go (Some (v, n)) d q rest = behind v n (run m ws n (k v)) q d (rest v n)
-    go None d q rest = let z : ◌≡◌ {A = ℕ} 0 1 = cc in absurd (omega arith)
+    go None d q rest = absurd (cc)

@@ -22,7 +22,7 @@ mod_below w k (suc b) h = mod-lt w (omega arith)
 
 from_below : (m b i : ℕ) (ws : List ℕ) (v next : ℕ) → draw_from m b i ws ≡ Some (v, next) → v < b
 unfolding draw_from
-from_below m b i [] v next e = let z : ◌≡◌ {A = ℕ} 0 1 = cc in absurd (omega arith)
+from_below m b i [] v next e = absurd (cc)
 from_below m b i (w ∷ ws) v next e = go (ltb w (K m b * b)) refl e (from_below m b (i + 1) ws v next)
   where
     go : (t : Bool) → ltb w (K m b * b) ≡ t → cond t (Some (w % b, i + 1)) (draw_from m b (i + 1) ws) ≡ Some (v, next)
@@ -65,13 +65,13 @@ followed {A} m (draw b k) ws vs at next x e = go (draw_at m ws at b) refl e (λ 
     reached v (finished us y n) l q h =
         let (o, d) = h us (cc) in
         (b * o, Memᴰ.cast (cc) (mem_over b (λ v. map (step b v) (paths (k v))) v l (mem_map (step b v) d)))
-    reached v short l q h = let z : ◌≡◌ {A = ℕ} 0 1 = cc in absurd (omega arith)
+    reached v short l q h = absurd (cc)
 
     go : (d : Option (ℕ × ℕ)) → draw_at m ws at b ≡ d → follow d (λ v n. run m ws n (k v)) ≡ finished vs x next
         → ((v n : ℕ) (us : List ℕ) → run m ws n (k v) ≡ finished us x next → (o : ℕ) × Memᴰ {A = Path A} (record { values = us; bounds = o; result = x }) (paths (k v)))
         → (o : ℕ) × Memᴰ {A = Path A} (record { values = vs; bounds = o; result = x }) (over ◌++◌ [] b (λ v. map (step b v) (paths (k v))))
     go (Some (v, n)) l q h = reached v (run m ws n (k v)) (value_below m ws at b l) q (h v n)
-    go None l q h = let z : ◌≡◌ {A = ℕ} 0 1 = cc in absurd (omega arith)
+    go None l q h = absurd (cc)
 
 -- what every result of a plan has, its run's result has
 pub run_every : {A : Type 0} (P : A → Type 0) (m : ℕ) (p : Plan A) → Every P p → (ws : List ℕ) (at : ℕ) {vs : List ℕ} {next : ℕ} {a : A} → run m ws at p ≡ finished vs a next → P a
@@ -81,12 +81,12 @@ run_every {A} P m (draw b k) d ws at {vs} {next} {a} e = go (draw_at m ws at b) 
   where
     reached : (v : ℕ) (r : Run A) → extend_run v r ≡ finished vs a next → ((us : List ℕ) → r ≡ finished us a next → P a) → P a
     reached v (finished us y n) q h = h us (cc)
-    reached v short q h = let z : ◌≡◌ {A = ℕ} 0 1 = cc in absurd (omega arith)
+    reached v short q h = absurd (cc)
 
     go : (x : Option (ℕ × ℕ)) → draw_at m ws at b ≡ x → follow x (λ v n. run m ws n (k v)) ≡ finished vs a next
         → ((v : ℕ) → v < b → (n : ℕ) (us : List ℕ) → run m ws n (k v) ≡ finished us a next → P a) → P a
     go (Some (v, n)) l q h = reached v (run m ws n (k v)) q (h v (value_below m ws at b l) n)
-    go None l q h = let z : ◌≡◌ {A = ℕ} 0 1 = cc in absurd (omega arith)
+    go None l q h = absurd (cc)
 
 -- ---- a path's values fix its result
 
@@ -118,12 +118,12 @@ fixed {A} m (draw b k) ws at next a q d e =
   where
     last : (v : ℕ) (r : Path A) (u : ℕ) (s : Run A) → q.values ≡ v ∷ r.values → extend_run u s ≡ finished q.values a next → (u ≡ v) × (s ≡ finished r.values a next)
     last v r u (finished us y n) f g = (cc, cc)
-    last v r u short f g = let z : ◌≡◌ {A = ℕ} 0 1 = cc in absurd (omega arith)
+    last v r u short f g = absurd (cc)
 
     go : (v : ℕ) (r : Path A) → Memᴰ r (paths (k v)) → q.values ≡ v ∷ r.values → (x : Option (ℕ × ℕ)) → follow x (λ u n. run m ws n (k u)) ≡ finished q.values a next
         → ((n : ℕ) → run m ws n (k v) ≡ finished r.values a next → r.result ≡ a) → r.result ≡ a
     go v r c f (Some (u, n)) g h = let (i, j) = last v r u (run m ws n (k u)) f g in h n (rw i at j)
-    go v r c f None g h = let z : ◌≡◌ {A = ℕ} 0 1 = cc in absurd (omega arith)
+    go v r c f None g h = absurd (cc)
 
 pub follows : {A : Type 0} (m : ℕ) (p : Plan A) → FollowsAPath m p
 follows m p = record { path = followed m p; result = fixed m p }

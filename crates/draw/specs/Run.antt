@@ -24,6 +24,11 @@ unfoldable pub run : {A : Type 0} → ℕ → List ℕ → ℕ → Plan A → Ru
 run m ws at (done a) = finished [] a at
 run m ws at (draw b k) = follow (draw_at m ws at b) (λ v next. run m ws next (k v))
 
+-- the answer to a run: its result and the next position; none where the words ended
+abbrev pub answer : {A : Type 0} → Run A → Option (A × ℕ)
+answer (finished vs a next) = Some (a, next)
+answer short = None
+
 -- what is proved of the run of every plan (proofs/Runs.antt)
 pub record FollowsAPath {A : Type 0} (m : ℕ) (p : Plan A) : Type 0 where
   -- it follows one of the plan's paths

@@ -1,70 +1,53 @@
 -- Answers through numbers that the caller lends, and enums from numbers.
-use Rattle.std.specs.Prelude.{ℕ, ◌≡◌, Bool, true, false, cond, eqb}
+use Rattle.std.specs.Prelude.{ℕ, ◌≡◌, Bool, cond, eqb, Option, None, Some, is_some}
 use Rattle.round.specs.Choice.{is_held, outcome}
 use Rattle.round.specs.Rows.{initials}
-use Rattle.draw.specs.declared.Drawn.{Drawn}
-use Rattle.draw.specs.declared.Drawn.TheVariants.{Value, Short}
 use Rattle.round.specs.declared.Donors.{Donors}
-use Rattle.round.specs.declared.Donors.TheVariants.{None, One, Two}
+use Rattle.round.specs.declared.Donors.TheVariants.{None as NoDonor, One, Two}
 use Rattle.round.specs.declared.Held.{Held}
-use Rattle.round.specs.declared.Seat.TheVariants.{Here, Elsewhere}
-use Rattle.round.specs.declared.Selected.{Selected}
-use Rattle.round.specs.declared.Selected.TheVariants.{At, Short as Ended}
+use Rattle.round.specs.declared.Selection.{Selection}
 use Rattle.tally.specs.Verdict.{Verdict, refused, fits}
 
--- whether there is a value
-abbrev pub is_value : Drawn → Bool
-is_value (Value v next) = true
-is_value Short = false
-
 -- the value, or what was there before
-abbrev pub value_or : ℕ → Drawn → ℕ
-value_or x (Value v next) = v
-value_or x Short = x
+abbrev pub value_or : ℕ → Option (ℕ × ℕ) → ℕ
+value_or x (Some (v, next)) = v
+value_or x None = x
 
 -- the next position, or what was there before
-abbrev pub next_or : ℕ → Drawn → ℕ
-next_or x (Value v next) = next
-next_or x Short = x
+abbrev pub next_or : {A : Type 0} → ℕ → Option (A × ℕ) → ℕ
+next_or x (Some (a, next)) = next
+next_or x None = x
 
 -- the answer to a draw d, and the two numbers lent: before the call and after it
-pub record DrawReply (d : Drawn) (answer : Bool) (value value' next next' : ℕ) : Type 0 where
-  pub result : answer ≡ is_value d
+pub record DrawReply (d : Option (ℕ × ℕ)) (answer : Bool) (value value' next next' : ℕ) : Type 0 where
+  pub result : answer ≡ is_some d
   pub value_written : value' ≡ value_or value d
   pub next_written : next' ≡ next_or next d
 
 -- the donors, from their count and their whole old sums
 abbrev pub donors_from : ℕ → ℕ → ℕ → Donors
-donors_from count first second = cond (eqb count 0) None (cond (eqb count 1) (One first) (Two first second))
+donors_from count first second = cond (eqb count 0) NoDonor (cond (eqb count 1) (One first) (Two first second))
 
 -- the held lifts, from their count and their places: one alone stands for donor 1's, with which the choice is the same
 abbrev pub held_from : ℕ → ℕ → ℕ → Held
 held_from count i j =
-    cond (eqb count 0) (record { first = Elsewhere; second = Elsewhere }) (cond (eqb count 1) (record { first = Here i; second = Elsewhere }) (record { first = Here i; second = Here j }))
+    cond (eqb count 0) (record { first = None; second = None }) (cond (eqb count 1) (record { first = Some i; second = None }) (record { first = Some i; second = Some j }))
 
--- whether there is a choice; its place, outcome and next position, or what was there before
-abbrev pub is_at : Selected → Bool
-is_at (At i d n) = true
-is_at Ended = false
+-- the place and the outcome of a choice, or what was there before
+abbrev pub place_or : ℕ → Option (Selection × ℕ) → ℕ
+place_or x (Some (s, next)) = s.place
+place_or x None = x
 
-abbrev pub place_or : ℕ → Selected → ℕ
-place_or x (At i d n) = i
-place_or x Ended = x
-
-abbrev pub outcome_or : ℕ → Held → Selected → ℕ
-outcome_or x h (At i d n) = outcome (is_held (initials h) i) d
-outcome_or x h Ended = x
-
-abbrev pub behind_or : ℕ → Selected → ℕ
-behind_or x (At i d n) = n
-behind_or x Ended = x
+abbrev pub outcome_or : ℕ → Held → Option (Selection × ℕ) → ℕ
+outcome_or x h (Some (s, next)) = outcome (is_held (initials h) s.place) s.dropped
+outcome_or x h None = x
 
 -- the answer to a choice s from the held lifts h, and the three numbers lent: before the call and after it
-pub record RoundReply (h : Held) (s : Selected) (answer : Bool) (place place' outcome outcome' next next' : ℕ) : Type 0 where
-  pub result : answer ≡ is_at s
+pub record RoundReply (h : Held) (s : Option (Selection × ℕ)) (answer : Bool) (place place' outcome outcome' next next' : ℕ) : Type 0 where
+  pub result : answer ≡ is_some s
   pub place_written : place' ≡ place_or place s
   pub outcome_written : outcome' ≡ outcome_or outcome h s
-  pub next_written : next' ≡ behind_or next s
+  pub next_written : next' ≡ next_or next s
 
 -- the document's number of a refusal, 0 where the sheet fits
 abbrev pub check_number : Verdict → ℕ

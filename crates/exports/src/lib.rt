@@ -13,12 +13,11 @@ ghost use Rattle.selection.specs.Choice.{fourth, reply, output};
 ghost use Rattle.carry.specs.Reply.{reply_next, output_next, lent_sheet};
 ghost use Rattle.exports.specs.Reply.{DrawReply, donors_from, held_from, RoundReply, CheckReply};
 
-use draw::Drawn;
-use reply::Answer;
-use round::{Donors, Held, Seat, Selected};
-use tally::Checked;
+use draw::Reader;
+use reply::{Done, Refusal, Reply};
+use round::{Donors, Held};
 
-// `draw::draw_from`: true, the value and the next position written; or false, nothing written, where the words end. A bound of 0 has no value, so every word is passed over.
+// `draw::Reader::draw` from position `at` on: true, the value and the next position written; or false, nothing written, where the words end. A bound of 0 has no value, so every word is passed over.
 #[unsafe(no_mangle)]
 pub extern "C" fn jengpilo_draw_below(
     words: &[u64],
@@ -32,44 +31,35 @@ pub extern "C" fn jengpilo_draw_below(
     if bound == 0 {
         return false;
     }
-    let drawn = draw::draw_from(words, at, bound);
-    match drawn {
-        Drawn::Value(v, n) => {
-            *value = v;
-            *next = n;
-            true
-        }
-        Drawn::Short => false,
-    }
+    let mut reader = Reader::new(words, at);
+    let Some(drawn) = reader.draw(bound) else {
+        return false;
+    };
+    *value = drawn;
+    *next = reader.at;
+    true
 }
 
 // The donors, from their count and their whole old sums.
 fn donors_from(count: u8, t1: u64, t2: u64) -> Donors
     ensures { result ≡ donors_from count t1 t2 }
 {
-    if count == 0 {
-        return Donors::None;
+    match count {
+        0 => Donors::None,
+        1 => Donors::One(t1),
+        _ => Donors::Two(t1, t2),
     }
-    if count == 1 {
-        return Donors::One(t1);
-    }
-    Donors::Two(t1, t2)
 }
 
 // The held lifts, from their count and their places: one alone stands for donor 1's, with which the choice is the same.
 fn held_from(count: u8, i: usize, j: usize) -> Held
     ensures { result ≡ held_from count i j }
 {
-    let mut first = Seat::Elsewhere;
-    let mut second = Seat::Elsewhere;
-    if count == 0 {
-        return Held { first, second };
-    }
-    first = Seat::Here(i);
-    if count == 1 {
-        return Held { first, second };
-    }
-    second = Seat::Here(j);
+    let (first, second) = match count {
+        0 => (None, None),
+        1 => (Some(i), None),
+        _ => (Some(i), Some(j)),
+    };
     Held { first, second }
 }
 
@@ -94,16 +84,16 @@ pub extern "C" fn jengpilo_round_select(
 {
     let from = donors_from(donors, t1, t2);
     let here = held_from(held, i, j);
-    let sums = weights::sums_of(rows, from);
-    match procedure::select(rows, from, here, sums, words, at) {
-        Selected::At(p, dropped, n) => {
-            *place = p;
-            *outcome = procedure::outcome(procedure::is_held(here, p), dropped);
-            *next = n;
-            true
-        }
-        Selected::Short => false,
-    }
+    let sums = weights::Sums::of(rows, from);
+    let mut reader = Reader::new(words, at);
+    let Some(chosen) = procedure::select(rows, from, here, sums, &mut reader) else {
+        return false;
+    };
+    let was_held = procedure::is_held(here, chosen.place);
+    *place = chosen.place;
+    *outcome = procedure::outcome(was_held, chosen.dropped);
+    *next = reader.at;
+    true
 }
 
 // `survey::check`: the document's number, the place written; or 0, how many lifts and how many new rounds written.
@@ -111,27 +101,27 @@ pub extern "C" fn jengpilo_round_select(
 pub extern "C" fn jengpilo_sheet_check(sheet: &[u32], place: &mut usize, rounds: &mut usize) -> u32
     ensures { CheckReply (verdict sheet.now) result place.new rounds.old rounds.new }
 {
-    let checked = survey::check(sheet);
-    match checked {
-        Checked::Refused(x) => {
-            *place = x.place();
-            x.number()
-        }
-        Checked::Fits(s) => {
-            *place = s.lifts;
-            *rounds = s.rounds;
+    match survey::check(sheet) {
+        Ok(fitting) => {
+            *place = fitting.lifts;
+            *rounds = fitting.rounds;
             0
+        }
+        Err(refusal) => {
+            *place = refusal.place();
+            refusal.number()
         }
     }
 }
 
 // The reply that an answer stands for: its number, the other two written.
-fn write_reply(answer: Answer, second: &mut usize, third: &mut usize) -> u32
+fn write_reply(answer: Result<Done, Refusal>, second: &mut usize, third: &mut usize) -> u32
     ensures { numbers result second.new third.new ≡ reply_of answer }
 {
-    *second = answer.second();
-    *third = answer.third();
-    answer.number()
+    let reply = Reply::from(answer);
+    *second = reply.second;
+    *third = reply.third;
+    reply.number
 }
 
 // `panel::choose`: the document's number and place, and 0 words read; or 0, how many choices and how many words were read.

@@ -7,7 +7,8 @@ use mathlib.Core.List.{List, ◌∷◌, Memᴰ}
 use mathlib.Core.Logic.{◌⊎◌, inl, inr}
 use native.Mathlib.Omega.{arith}
 use lib.Dec.{eqb, ltb}
-use lib.ListN.{length, get_or, set, replicate, length-set}
+use lib.ListN.{length, get_or, set, length-set}
+use Rattle.std.specs.Prelude.{Option, None, Some}
 use borrow.Author.Tests.{eqb-true, eqb-false, eq-eqb, ne_eqb, lt-ltb}
 use Rattle.probability.specs.Among.{among}
 use Rattle.probability.specs.Sum.{total_by}
@@ -17,16 +18,17 @@ use Rattle.tally.specs.Rounds.{lift_count, in_use}
 use Rattle.tally.specs.Law.{Fit}
 use Rattle.sheet.specs.Lift.{New}
 use Rattle.tally.proofs.Ranges.{filter_has}
-use Rattle.selection.specs.Choice.{lift_in_round, fourth, Choice, choice_of, by_round}
+use Rattle.selection.specs.declared.Pick.{Pick}
+use Rattle.selection.specs.Choice.{lift_in_round, fourth, Choice, choice_of, pick_of, by_round, none_chosen}
 use Rattle.selection.proofs.Held.{proper}
 use Rattle.selection.proofs.Naming.{same}
 use Rattle.selection.proofs.Steps.{Steps, none, some}
 use Rattle.selection.proofs.Chosen.{Measured, run_measured}
-use Rattle.carry.specs.Next.{carried_on, is_chosen, next_lifts, in_table}
+use Rattle.carry.specs.Next.{carried_on, is_chosen, next_lifts, has_number, in_table}
 use Rattle.carry.proofs.Rounds.{carried_on_ext}
 use Rattle.carry.proofs.Marks.{Used, all_used}
 use Rattle.selection.proofs.Choices.{Rises}
-use Rattle.panel.proofs.Tabled.{by_round_first}
+use Rattle.selection.proofs.Tables.{by_round_first}
 
 -- a lift's new round is named
 named_some : {l : Lift} {ls : List Lift} → Memᴰ l ls → 0 < lift_count New l.new.round ls
@@ -51,11 +53,11 @@ module _ {ls : List Lift} (f : Fit ls) {l : Lift} (i : Memᴰ l ls) where
 
   -- the table has its round's choice
   table_has : {ws : List ℕ} {from next : ℕ} {rs : List ℕ} {cs : List Choice} → Steps fourth ls ws from rs cs next → All (Used ls) rs → (k : ℕ) → Rises k cs
-      → Memᴰ l.new.round rs → (xs : List ℕ) → length xs ≡ most_rounds + 1 → in_table (by_round (λ c. c.number) cs xs) l ≡ is_chosen cs l
+      → Memᴰ l.new.round rs → (xs : List (Option Pick)) → length xs ≡ most_rounds + 1 → in_table (by_round cs xs) l ≡ is_chosen cs l
   unfolding among by_round
   table_has none u k d m xs e = absurd (Memᴰ.not-nil m)
   table_has {ws} {from} (some {r = r} {rs = rs} {cs = cs} {vs = vs} {s = s} q rest) u k d m xs e =
-      go (eqb r l.new.round) refl (Memᴰ.cases_cons m) (λ n. table_has rest v (suc r) d.2 n (set xs r c.number) (length-set xs r c.number ∙ e))
+      go (eqb r l.new.round) refl (Memᴰ.cases_cons m) (λ n. table_has rest v (suc r) d.2 n (set xs r (Some (pick_of c))) (length-set xs r (Some (pick_of c)) ∙ e))
     where
       c : Choice
       c = choice_of r ls vs s
@@ -67,22 +69,22 @@ module _ {ls : List Lift} (f : Fit ls) {l : Lift} (i : Memᴰ l ls) where
       mine = let used = u r (Memᴰ.head refl) in run_measured f used.low used.high used.some ws from q
 
       go : (x : Bool) → eqb r l.new.round ≡ x → (l.new.round ≡ r) ⊎ Memᴰ l.new.round rs
-          → (Memᴰ l.new.round rs → in_table (by_round (λ c. c.number) cs (set xs r c.number)) l ≡ is_chosen cs l)
-          → in_table (by_round (λ c. c.number) cs (set xs r c.number)) l ≡ (eqb c.number l.number || is_chosen cs l)
+          → (Memᴰ l.new.round rs → in_table (by_round cs (set xs r (Some (pick_of c)))) l ≡ is_chosen cs l)
+          → in_table (by_round cs (set xs r (Some (pick_of c)))) l ≡ (eqb c.number l.number || is_chosen cs l)
       go true h y ih =
           let z : r ≡ l.new.round = eqb-true r l.new.round h in
-          let first : get_or (by_round (λ c. c.number) (c ∷ cs) xs) l.new.round 0 ≡ c.number = rw (← z) (by_round_first (λ c. c.number) c cs d.2 xs (omega (arith, d.1.upto))) in
-          ap (λ n. eqb n l.number) first
+          let first : get_or (by_round (c ∷ cs) xs) l.new.round None ≡ Some (pick_of c) = rw (← z) (by_round_first c cs d.2 xs (omega (arith, d.1.upto))) in
+          ap (λ p. has_number p l.number) first
           ∙ sym (ap (λ b. eqb c.number l.number || b) (unchosen rest v (suc r) d.2 (omega arith)) ∙ or-false (eqb c.number l.number))
       go false h (inl y) ih = absurd (eqb-false r l.new.round h (sym y))
       go false h (inr n) ih = rw (other mine (eqb-false r l.new.round h)) (ih n)
 
 -- so what is written from the table is next quarter's lifts
 pub table_next : {ls : List Lift} → Fit ls → {ws : List ℕ} {start next : ℕ} {cs : List Choice} → Steps fourth ls ws start (in_use New ls) cs next → Rises 1 cs
-    → carried_on (in_table (by_round (λ c. c.number) cs (replicate (most_rounds + 1) 0))) ls ≡ next_lifts cs ls
+    → carried_on (in_table (by_round cs none_chosen)) ls ≡ next_lifts cs ls
 table_next {ls} f k d =
     carried_on_ext ls
     (λ l i h.
     let p = proper 0 ls f.well_formed.listed l i in
     let m = filter_has (λ r. ltb 0 (lift_count New r ls)) 1 most_rounds l.new.round (lt-ltb 0 (lift_count New l.new.round ls) (named_some i)) h (omega (arith, p.new.round)) in
-    table_has f i k (all_used ls) 1 d m (replicate (most_rounds + 1) 0) refl)
+    table_has f i k (all_used ls) 1 d m none_chosen refl)

@@ -14,16 +14,15 @@ use Rattle.tally.specs.Law.{Fit}
 use Rattle.sheet.specs.Lift.{New}
 use Rattle.tally.proofs.Verdicts.{decided}
 use Rattle.selection.specs.Choice.{fourth, Panel, chosen, short, panel, of_panel, written_panel}
-use Rattle.carry.specs.Next.{remaining, next_sheet, words_needed}
+use Rattle.carry.specs.Next.{remaining, carried_on, in_table, next_sheet, words_needed}
 use Rattle.carry.specs.Reply.{of_lent_next, reply_next, output_next, carried_to, lent_sheet}
 use Rattle.carry.proofs.Carrying.{carries}
-use Rattle.picks.specs.Choosing.{Picked}
-use Rattle.panel.specs.Writing.{Answers, sheet_by, CarriesOn}
-use Rattle.reply.specs.Refusal.{reply_of}
-use Rattle.picks.specs.declared.Picks.{Picks}
-use Rattle.reply.specs.declared.Answer.{Answer}
+use Rattle.std.specs.Prelude.{Option, None, Some, Result, Ok, Err}
+use Rattle.selection.specs.declared.Pick.{Pick}
+use Rattle.picks.specs.Choosing.{picks_of}
+use Rattle.reply.specs.declared.Refusal.{Refusal}
 use Rattle.selection.proofs.Choices.{panel_rises}
-use Rattle.panel.proofs.Answers.{Done, done, ended, left_panel, enough}
+use Rattle.panel.proofs.Answers.{Gathered, left_panel, enough}
 use Rattle.reply.proofs.Replies.{left}
 use Rattle.panel.proofs.Carried.{table_next}
 
@@ -33,21 +32,25 @@ pub both_left : {y z : Reply} (out new next newer : List ℕ) → (y.number ≡ 
 both_left out new next newer h e = (e, ((left out new h e).1, (left next newer h e).1))
 
 -- the lent sheet of choices that are a panel's
-module _ {ls : List Lift} (f : Fit ls) (ws : List ℕ) (start : ℕ) (p : Picks) (d : Picked (panel fourth ls ws start) p) where
-  sheet_is : (x : Done fourth ls ws start p) → sheet_by p ls ≡ next_sheet x.choices ls
-  sheet_is x = rw x.gathers.numbers (ap sheet_of (table_next f x.steps (panel_rises f x.steps)))
+module _ {ls : List Lift} (f : Fit ls) (ws : List ℕ) (start : ℕ) {picks : List (Option Pick)} {at : ℕ} (g : Gathered fourth ls ws start picks at) where
+  sheet_is : sheet_of (carried_on (in_table picks) ls) ≡ next_sheet g.choices ls
+  sheet_is = rw g.table (ap sheet_of (table_next f g.steps (panel_rises f g.steps)))
 
   -- it has room in "the words needed"
-  pub room : {space : ℕ} → words_needed ls (length (in_use New ls)) ≤ space → p.short ≡ 0 → length (sheet_by p ls) ≤ space
-  room h z = let x = done fourth ls ws start p d z in rw (sheet_is x, (carries ls f ws start x.next x.choices x.is).long) h
+  pub room : {space : ℕ} → words_needed ls (length (in_use New ls)) ≤ space → length (sheet_of (carried_on (in_table picks) ls)) ≤ space
+  room h = rw (sheet_is, (carries ls f ws start at g.choices g.is).long) h
 
-  pub carried_done : p.short ≡ 0 → (next : List ℕ) → onto (sheet_by p ls) next ≡ carried_to (panel fourth ls ws start) ls next
-  carried_done z next = let x = done fourth ls ws start p d z in rw x.is (ap (λ ws. onto ws next) (sheet_is x))
-
-pub carried_ended : (ls : List Lift) (ws : List ℕ) (start : ℕ) (p : Picks) → Picked (panel fourth ls ws start) p → (p.short ≡ 0 → ⊥) → (next : List ℕ) → next ≡ carried_to (panel fourth ls ws start) ls next
-carried_ended ls ws start p d h next = rw (ended fourth ls ws start p d h)
+  pub carried_all : (next : List ℕ) → onto (sheet_of (carried_on (in_table picks) ls)) next ≡ carried_to (panel fourth ls ws start) ls next
+  carried_all next = rw g.is (ap (λ ws. onto ws next) sheet_is)
 
 -- where the words ended it is as it was
+pub carried_ended : (ls : List Lift) (ws : List ℕ) (start : ℕ) {x : Refusal} → Err x ≡ picks_of (panel fourth ls ws start) → (next : List ℕ) → next ≡ carried_to (panel fourth ls ws start) ls next
+carried_ended ls ws start {x} p next = go (panel fourth ls ws start) p
+  where
+    go : (y : Panel) → Err x ≡ picks_of y → next ≡ carried_to y ls next
+    go (chosen cs n) q = let z : ◌≡◌ {A = ℕ} 0 1 = cc in absurd (omega arith)
+    go (short r) q = refl
+
 left_next : (start : ℕ) (x : Panel) (ls : List Lift) (next : List ℕ) → carried_to x ls next ≡ unless_refused (of_panel start x) next (carried_to x ls next)
 left_next start (chosen cs n) ls next = refl
 left_next start (short r) ls next = refl
@@ -62,15 +65,15 @@ module _ (ls : List Lift) (ws : List ℕ) (start : ℕ) (out next : List ℕ) (m
   pub cramped : length next < 3 * m + n + 1 → of_refusal (numbered 17 (3 * m + n + 1)) ≡ of_lent_next ls n ws start (length out) (length next)
   cramped h = rw (← enough n (length ws) start (length out) a.0 _ a.1, ← e, lt-ltb (length next) (3 * m + n + 1) h)
 
-  pub through_next : 3 * m + n + 1 ≤ length next → (p : Picks) → Picked (panel fourth ls ws start) p → Fit ls → {r : Answer} {out' next' : List ℕ}
-      → Answers p n start r out out' → CarriesOn p ls next next'
-      → (reply_of r ≡ of_lent_next ls n ws start (length out) (length next))
-      × ((out' ≡ unless_refused (of_lent_next ls n ws start (length out) (length next)) out (written_panel (panel fourth ls ws start) out))
-      × (next' ≡ unless_refused (of_lent_next ls n ws start (length out) (length next)) next (carried_to (panel fourth ls ws start) ls next)))
-  through_next h p d f s q =
+  -- where the lent sheet suffices too, all three are the panel's
+  pub through_next : 3 * m + n + 1 ≤ length next → {y : Reply} {out' next' : List ℕ} → let x = panel fourth ls ws start in
+      y ≡ of_panel start x → out' ≡ written_panel x out → next' ≡ carried_to x ls next
+      → (y ≡ of_lent_next ls n ws start (length out) (length next))
+      × ((out' ≡ unless_refused (of_lent_next ls n ws start (length out) (length next)) out (written_panel x out))
+      × (next' ≡ unless_refused (of_lent_next ls n ws start (length out) (length next)) next (carried_to x ls next)))
+  through_next h p q s =
       let x = panel fourth ls ws start in
-      rw (← enough n (length ws) start (length out) a.0 _ a.1, ← e, le-ltb (length next) (3 * m + n + 1) h)
-      (s.replies fourth ls ws d refl, (s.writes fourth ls ws d f ∙ left_panel start x out, q ws start d f ∙ left_next start x ls next))
+      rw (← enough n (length ws) start (length out) a.0 _ a.1, ← e, le-ltb (length next) (3 * m + n + 1) h) (p, (q ∙ left_panel start x out, s ∙ left_next start x ls next))
 
 -- ---- the whole sheet
 

@@ -4,12 +4,12 @@ use mathlib.Core.Path.{◌≡◌, refl, sym, ap, ◌∙◌}
 use mathlib.Core.List.{List, [], ◌∷◌, ◌++◌, append_assoc, append-nil}
 use native.Mathlib.Omega.{arith}
 use native.Mathlib.Numerals.{add-one}
-use lib.ListN.{length, get_or, drop, set, length-append, length-drop}
-use lib.Seq.{take_at, drop_at, drop-drop}
+use lib.ListN.{length, get_or, drop, set, length-append, length-drop, drop_of_length-le}
+use lib.Seq.{take_at, drop_at, drop-cons, drop-drop}
 use borrow.Rule.Slice.PartMut.{put_mid}
-use borrow.Author.Tests.{eq-eqb, ne_eqb}
-use Rattle.sheet.specs.Sheet.{most_rounds}
+use Rattle.std.specs.Prelude.{Option, None, Some}
 use Rattle.selection.specs.Choice.{pair}
+use Rattle.selection.specs.declared.Pick.{Pick}
 use Rattle.panel.specs.Writing.{pairs_from, pairs, with_pairs}
 
 two_sets : (a b : ℕ) (l : List ℕ) → length l ≡ 2 → set (set l 0 a) 1 b ≡ a ∷ b ∷ []
@@ -27,33 +27,40 @@ put_part done part old a e l h w =
     let n : a + (e - a) ≡ e = omega arith in
     rw (w, take_at done (drop a old) a l, drop_at done (drop a old) a l, drop-drop, n, append_assoc)
 
+-- what a round without a choice and one with a choice add
+none_adds : (r : ℕ) (picks : List (Option Pick)) → pairs_from r (None ∷ picks) ≡ pairs_from (r + 1) picks
+unfolding pairs_from
+none_adds r picks = rw (add-one r) refl
+
+some_adds : (r : ℕ) (p : Pick) (picks : List (Option Pick)) → pairs_from r (Some p ∷ picks) ≡ pair r p.number p.outcome ++ pairs_from (r + 1) picks
+unfolding pairs_from
+some_adds r p picks = rw (add-one r) refl
+
 -- the pairs of the rounds before r are written, and behind them lies what did
-pub record PairsWritten (ns os old out : List ℕ) (start r : ℕ) : Type 0 where
+pub record PairsWritten (picks : List (Option Pick)) (old out : List ℕ) (start r : ℕ) : Type 0 where
   pub done : List ℕ
   pub long : length done ≡ start
   pub kept : length out ≡ length old
-  pub same : done ++ pairs_from ns os r (most_rounds + 1 - r) ≡ pairs ns os
+  pub same : done ++ pairs_from r (drop r picks) ≡ pairs picks
   pub is : out ≡ done ++ drop start old
 
-pub written_none : (ns os old : List ℕ) → PairsWritten ns os old old 0 1
-written_none ns os old = record { done = []; long = refl; kept = refl; same = refl; is = refl }
+pub written_none : (picks : List (Option Pick)) (old : List ℕ) → PairsWritten picks old old 0 0
+written_none picks old = record { done = []; long = refl; kept = refl; same = refl; is = refl }
 
-module _ {ns os old out : List ℕ} {start r : ℕ} (w : PairsWritten ns os old out start r) (h : r ≤ most_rounds) where
-  -- a round without an outcome
-  pub written_skip : get_or os r 0 ≡ 0 → PairsWritten ns os old out start (r + 1)
-  unfolding pairs_from
-  written_skip e =
-      let n : most_rounds + 1 - r ≡ suc (most_rounds + 1 - (r + 1)) = omega arith in
-      record { done = w.done; long = w.long; kept = w.kept; same = rw (n, eq-eqb (get_or os r 0) 0 e, ← add-one r) at w.same; is = w.is }
+module _ {picks : List (Option Pick)} {old out : List ℕ} {start r : ℕ} (w : PairsWritten picks old out start r) (h : r < length picks) where
+  -- the rounds from r up are round r and those behind it
+  here : drop r picks ≡ get_or picks r None ∷ drop (r + 1) picks
+  here = drop-cons picks r None h ∙ rw (add-one r) refl
 
-  module _ (few : length (pairs ns os) ≤ length old) (o : get_or os r 0 ≡ 0 → ⊥) where
-    -- one with an outcome has the next pair
-    next_pair : (w.done ++ pair r (get_or ns r 0) (get_or os r 0)) ++ pairs_from ns os (r + 1) (most_rounds + 1 - (r + 1)) ≡ pairs ns os
-    unfolding pairs_from
+  -- a round without a choice
+  pub written_skip : get_or picks r None ≡ None → PairsWritten picks old out start (r + 1)
+  written_skip e = record { done = w.done; long = w.long; kept = w.kept; same = rw (here, e, none_adds r (drop (r + 1) picks)) at w.same; is = w.is }
+
+  module _ (few : length (pairs picks) ≤ length old) {p : Pick} (e : get_or picks r None ≡ Some p) where
+    -- one with a choice has the next pair
+    next_pair : (w.done ++ pair r p.number p.outcome) ++ pairs_from (r + 1) (drop (r + 1) picks) ≡ pairs picks
     next_pair =
-        let n : most_rounds + 1 - r ≡ suc (most_rounds + 1 - (r + 1)) = omega arith in
-        append_assoc w.done (pair r (get_or ns r 0) (get_or os r 0)) (pairs_from ns os (r + 1) (most_rounds + 1 - (r + 1)))
-        ∙ rw (n, ne_eqb (get_or os r 0) 0 o, ← add-one r) at w.same
+        append_assoc w.done (pair r p.number p.outcome) (pairs_from (r + 1) (drop (r + 1) picks)) ∙ rw (here, e, some_adds r p (drop (r + 1) picks)) at w.same
 
     -- for which there is room
     pub room : start + 2 ≤ length out
@@ -62,30 +69,28 @@ module _ {ns os old out : List ℕ} {start r : ℕ} (w : PairsWritten ns os old 
           arith,
           few,
           ap length next_pair,
-          length-append (w.done ++ pair r (get_or ns r 0) (get_or os r 0)) (pairs_from ns os (r + 1) (most_rounds + 1 - (r + 1))),
-          length-append w.done (pair r (get_or ns r 0) (get_or os r 0)),
+          length-append (w.done ++ pair r p.number p.outcome) (pairs_from (r + 1) (drop (r + 1) picks)),
+          length-append w.done (pair r p.number p.outcome),
           w.long,
           w.kept,
         )
 
-    pub written_turn : {part out' : List ℕ} → part ≡ pair r (get_or ns r 0) (get_or os r 0) → out' ≡ put_mid start (start + 2 - start) out part
-        → PairsWritten ns os old out' (start + 2) (r + 1)
-    written_turn {part} {out'} p e =
-        let long : length (w.done ++ part) ≡ start + 2 = rw (p, length-append w.done) (omega (arith, w.long)) in
+    pub written_turn : {part out' : List ℕ} → part ≡ pair r p.number p.outcome → out' ≡ put_mid start (start + 2 - start) out part → PairsWritten picks old out' (start + 2) (r + 1)
+    written_turn {part} {out'} q e =
+        let long : length (w.done ++ part) ≡ start + 2 = rw (q, length-append w.done) (omega (arith, w.long)) in
         let is : out' ≡ (w.done ++ part) ++ drop (start + 2) old =
         e ∙ put_part w.done part old start (start + 2) w.long (omega arith) w.is in
         record {
           done = w.done ++ part;
           long = long;
           kept = rw (is, length-append (w.done ++ part), length-drop) (omega (arith, long, room, w.kept));
-          same = rw p next_pair;
+          same = rw q next_pair;
           is = is;
         }
 
 -- behind the last round
-pub written_end : {ns os old out : List ℕ} {start r : ℕ} → most_rounds < r → PairsWritten ns os old out start r → out ≡ with_pairs ns os old
+pub written_end : {picks : List (Option Pick)} {old out : List ℕ} {start r : ℕ} → length picks ≤ r → PairsWritten picks old out start r → out ≡ with_pairs picks old
 unfolding pairs_from
-written_end {ns} {os} {old} {out} {start} {r} h w =
-    let n : most_rounds + 1 - r ≡ 0 = omega arith in
-    let e : w.done ≡ pairs ns os = sym (append-nil w.done) ∙ rw n at w.same in
+written_end {picks} {old} {out} {start} {r} h w =
+    let e : w.done ≡ pairs picks = sym (append-nil w.done) ∙ rw (drop_of_length-le picks {i = r} h) at w.same in
     w.is ∙ rw (← e, w.long)

@@ -1,119 +1,71 @@
--- The choices of lifts that fit, in tables by round: their rounds rise, so each keeps its place, and the pairs of the tables are those of
--- the choices.
+-- The pairs of the table of the lifts chosen are those of the choices, since their rounds rise.
 use Prim.Native.Nat.{ℕ, zero, suc, ◌+◌, ◌*◌, ◌≤◌, ◌<◌}
 use mathlib.Core.Path.{◌≡◌, refl, ap, ◌∙◌}
-use mathlib.Core.Bool.{Bool, true, false, cond}
+use mathlib.Core.Bool.{Bool, true, false}
 use mathlib.Core.List.{List, [], ◌∷◌, ◌++◌}
 use native.Mathlib.Omega.{arith}
 use lib.Dec.{eqb}
-use lib.ListN.{length, get_or, set, drop, replicate, length-set}
-use lib.Seq.{get_or-set_same, get_or-set_other, drop-drop}
-use borrow.Author.Tests.{ne_eqb, eqb-true, eqb-false}
+use lib.ListN.{length, get_or, set, drop, length-set, drop_of_length-le}
+use lib.Seq.{get_or-set_other, drop-cons, drop-drop}
+use borrow.Author.Tests.{eqb-true, eqb-false}
+use Rattle.std.specs.Prelude.{Option, None, Some}
 use Rattle.sheet.specs.Sheet.{most_rounds}
-use Rattle.selection.specs.Choice.{Choice, by_round, pair, written_pairs}
+use Rattle.selection.specs.declared.Pick.{Pick}
+use Rattle.selection.specs.Choice.{Choice, pick_of, by_round, none_chosen, pair, written_pairs}
 use Rattle.selection.proofs.Choices.{Sound, Rises}
+use Rattle.selection.proofs.Tables.{none_chosen_at, length_by_round, by_round_below, by_round_first}
 use Rattle.panel.specs.Writing.{pairs_from, pairs}
 
--- ---- what the tables hold
-
--- nothing at first
-nothing : (n i : ℕ) → ◌≡◌ {A = ℕ} (get_or (replicate n 0) i 0) 0
-nothing zero i = refl
-nothing (suc n) zero = refl
-nothing (suc n) (suc i) = nothing n i
-
--- one value more in a table whose values have a property
-set_each : (P : ℕ → Type 0) (xs : List ℕ) (k : ℕ) {v : ℕ} → P v → ((i : ℕ) → P (get_or xs i 0)) → (i : ℕ) → P (get_or (set xs k v) i 0)
-set_each P [] k p h i = h i
-set_each P (x ∷ xs) zero p h zero = p
-set_each P (x ∷ xs) zero p h (suc i) = h (suc i)
-set_each P (x ∷ xs) (suc k) p h zero = h zero
-set_each P (x ∷ xs) (suc k) p h (suc i) = set_each P xs k p (λ j. h (suc j)) i
-
--- all choices' values in a table whose values have it
-by_round_each : (P : ℕ → Type 0) (f : Choice → ℕ) → ((c : Choice) → Sound c → P (f c)) → (a : ℕ) (cs : List Choice) → Rises a cs
-    → (xs : List ℕ) → ((i : ℕ) → P (get_or xs i 0)) → (i : ℕ) → P (get_or (by_round f cs xs) i 0)
-unfolding by_round
-by_round_each P f h a [] d xs k = k
-by_round_each P f h a (c ∷ cs) d xs k =
-    by_round_each P f h (suc c.round) cs d.2 (set xs c.round (f c)) (set_each P xs c.round (h c d.1) k)
-
--- a property of 0 and of each choice's value is one of the whole table's values
-pub tabled_each : (P : ℕ → Type 0) (f : Choice → ℕ) → ((c : Choice) → Sound c → P (f c)) → P 0 → (cs : List Choice) → Rises 1 cs
-    → (i : ℕ) → P (get_or (by_round f cs (replicate (most_rounds + 1) 0)) i 0)
-tabled_each P f h z cs d = by_round_each P f h 1 cs d (replicate (most_rounds + 1) 0) (λ i. rw (nothing (most_rounds + 1) i) z)
-
--- a place below the rounds keeps what it had
-pub by_round_below : (f : Choice → ℕ) (a : ℕ) (cs : List Choice) → Rises a cs → (xs : List ℕ) (r : ℕ) → r < a → get_or (by_round f cs xs) r 0 ≡ get_or xs r 0
-unfolding by_round
-by_round_below f a [] d xs r h = refl
-by_round_below f a (c ∷ cs) d xs r h =
-    by_round_below f (suc c.round) cs d.2 (set xs c.round (f c)) r (omega (arith, d.0))
-    ∙ get_or-set_other xs c.round r (f c) 0 (λ e. omega (arith, e, d.0))
-
--- the first round's place has its choice's value
-pub by_round_first : (f : Choice → ℕ) (c : Choice) (cs : List Choice) → Rises (suc c.round) cs → (xs : List ℕ) → c.round < length xs
-    → get_or (by_round f (c ∷ cs) xs) c.round 0 ≡ f c
-unfolding by_round
-by_round_first f c cs d xs h =
-    by_round_below f (suc c.round) cs d (set xs c.round (f c)) c.round (omega arith) ∙ get_or-set_same xs c.round (f c) 0 h
-
--- tables that have no outcome from round r up
-record Clear (r : ℕ) (xs ys : List ℕ) : Type 0 where
-  pub numbers : length xs ≡ most_rounds + 1
-  pub outcomes : length ys ≡ most_rounds + 1
-  pub none : (i : ℕ) → r ≤ i → get_or ys i 0 ≡ 0
+-- a table of all rounds that has no lift from round r up
+record Clear (r : ℕ) (xs : List (Option Pick)) : Type 0 where
+  pub long : length xs ≡ most_rounds + 1
+  pub none : (i : ℕ) → r ≤ i → get_or xs i None ≡ None
 
 -- a round further
-clear_next : {r : ℕ} {xs ys : List ℕ} → Clear r xs ys → Clear (suc r) xs ys
-clear_next k = record { numbers = k.numbers; outcomes = k.outcomes; none = λ i l. k.none i (omega arith) }
+clear_next : {r : ℕ} {xs : List (Option Pick)} → Clear r xs → Clear (suc r) xs
+clear_next k = record { long = k.long; none = λ i l. k.none i (omega arith) }
 
--- and with this round's choice set
-clear_set : {r : ℕ} {xs ys : List ℕ} (v w : ℕ) → Clear r xs ys → Clear (suc r) (set xs r v) (set ys r w)
-clear_set {r} {xs} {ys} v w k =
-    record {
-      numbers = length-set xs r v ∙ k.numbers;
-      outcomes = length-set ys r w ∙ k.outcomes;
-      none = λ i l. get_or-set_other ys r i w 0 (λ e. omega (arith, e)) ∙ k.none i (omega arith);
-    }
+-- and with this round's lift set
+clear_set : {r : ℕ} {xs : List (Option Pick)} (v : Option Pick) → Clear r xs → Clear (suc r) (set xs r v)
+clear_set {r} {xs} v k =
+    record { long = length-set xs r v ∙ k.long; none = λ i l. get_or-set_other xs r i v None (λ e. omega (arith, e)) ∙ k.none i (omega arith) }
 
--- the pairs of the tables are those of the choices
-pairs_by_round : (n r : ℕ) → r + n ≡ most_rounds + 1 → (cs : List Choice) → Rises r cs → (xs ys : List ℕ) → Clear r xs ys
-    → pairs_from (by_round (λ c. c.number) cs xs) (by_round (λ c. c.outcome) cs ys) r n ≡ written_pairs cs []
+-- the pairs of the table are those of the choices
+pairs_by_round : (n r : ℕ) → r + n ≡ most_rounds + 1 → (cs : List Choice) → Rises r cs → (xs : List (Option Pick)) → Clear r xs → pairs_from r (drop r (by_round cs xs)) ≡ written_pairs cs []
 unfolding pairs_from written_pairs by_round
-pairs_by_round zero r h [] d xs ys k = refl
-pairs_by_round zero r h (c ∷ cs) d xs ys k = absurd (omega (arith, d.0, d.1.upto))
-pairs_by_round (suc n) r h [] d xs ys k =
-    rw (k.none r (omega arith)) (pairs_by_round n (suc r) (omega arith) [] tt xs ys (clear_next k))
-pairs_by_round (suc n) r h (c ∷ cs) d xs ys k = go (eqb c.round r) refl (pairs_by_round n (suc r) (omega arith))
+pairs_by_round zero r h [] d xs k = rw (drop_of_length-le xs {i = r} (omega (arith, k.long)))
+pairs_by_round zero r h (c ∷ cs) d xs k = absurd (omega (arith, d.0, d.1.upto))
+pairs_by_round (suc n) r h [] d xs k =
+    rw (drop-cons xs r None (omega (arith, k.long)), k.none r (omega arith)) (pairs_by_round n (suc r) (omega arith) [] tt xs (clear_next k))
+pairs_by_round (suc n) r h (c ∷ cs) d xs k = go (eqb c.round r) refl (pairs_by_round n (suc r) (omega arith))
   where
-    ns : List ℕ
-    ns = by_round (λ c. c.number) (c ∷ cs) xs
+    table : List (Option Pick)
+    table = by_round (c ∷ cs) xs
 
-    os : List ℕ
-    os = by_round (λ c. c.outcome) (c ∷ cs) ys
+    long : r < length table
+    long = omega (arith, length_by_round (c ∷ cs) xs, k.long)
 
     go : (t : Bool) → eqb c.round r ≡ t
-        → ((cs : List Choice) → Rises (suc r) cs → (xs ys : List ℕ) → Clear (suc r) xs ys → pairs_from (by_round (λ c. c.number) cs xs) (by_round (λ c. c.outcome) cs ys) (suc r) n ≡ written_pairs cs [])
-        → cond (eqb (get_or os r 0) 0) [] (pair r (get_or ns r 0) (get_or os r 0)) ++ pairs_from ns os (suc r) n ≡ written_pairs (c ∷ cs) []
+        → ((cs : List Choice) → Rises (suc r) cs → (xs : List (Option Pick)) → Clear (suc r) xs → pairs_from (suc r) (drop (suc r) (by_round cs xs)) ≡ written_pairs cs [])
+        → pairs_from r (drop r table) ≡ written_pairs (c ∷ cs) []
     go true e ih =
         let f : c.round ≡ r = eqb-true c.round r e in
-        let x : get_or ns r 0 ≡ c.number = rw (← f) (by_round_first (λ c. c.number) c cs d.2 xs (omega (arith, k.numbers, d.1.upto))) in
-        let y : get_or os r 0 ≡ c.outcome = rw (← f) (by_round_first (λ c. c.outcome) c cs d.2 ys (omega (arith, k.outcomes, d.1.upto))) in
-        let z : pairs_from ns os (suc r) n ≡ written_pairs cs [] = rw f (ih cs (rw (← f) d.2) (set xs r c.number) (set ys r c.outcome) (clear_set c.number c.outcome k)) in
-        rw (x, y, ne_eqb c.outcome 0 (λ q. omega (arith, q, d.1.some)), z, f)
+        let x : get_or table r None ≡ Some (pick_of c) = rw (← f) (by_round_first c cs d.2 xs (omega (arith, k.long, d.1.upto))) in
+        let z : pairs_from (suc r) (drop (suc r) table) ≡ written_pairs cs [] = rw f (ih cs (rw (← f) d.2) (set xs r (Some (pick_of c))) (clear_set (Some (pick_of c)) k)) in
+        rw (drop-cons table r None long, x, z, f)
     go false e ih =
         let f = eqb-false c.round r e in
         let rest : Rises (suc r) (c ∷ cs) = (omega (arith, d.0), d.1, d.2) in
-        let z : get_or os r 0 ≡ 0 = by_round_below (λ c. c.outcome) (suc r) (c ∷ cs) rest ys r (omega arith) ∙ k.none r (omega arith) in
-        rw z (ih (c ∷ cs) rest xs ys (clear_next k))
+        let z : get_or table r None ≡ None = by_round_below (suc r) (c ∷ cs) rest xs r (omega arith) ∙ k.none r (omega arith) in
+        rw (drop-cons table r None long, z) (ih (c ∷ cs) rest xs (clear_next k))
 
 -- and so they are where there was none at first
-pub pairs_tabled : (cs : List Choice) → Rises 1 cs
-    → pairs (by_round (λ c. c.number) cs (replicate (most_rounds + 1) 0)) (by_round (λ c. c.outcome) cs (replicate (most_rounds + 1) 0)) ≡ written_pairs cs []
+pub pairs_tabled : (cs : List Choice) → Rises 1 cs → pairs (by_round cs none_chosen) ≡ written_pairs cs []
+unfolding pairs_from by_round
 pairs_tabled cs d =
-    pairs_by_round most_rounds 1 (omega arith) cs d (replicate (most_rounds + 1) 0) (replicate (most_rounds + 1) 0)
-    (record { numbers = refl; outcomes = refl; none = λ i l. nothing (most_rounds + 1) i })
+    let t = by_round cs none_chosen in
+    rw (drop-cons t 0 None (omega (arith, length_by_round cs none_chosen)), by_round_below 1 cs d none_chosen 0 (omega arith))
+    (pairs_by_round most_rounds 1 (omega arith) cs d none_chosen (record { long = refl; none = λ i l. none_chosen_at i }))
 
 -- ---- what is written
 

@@ -1,11 +1,11 @@
-// The output: two words for each choice.
+// The output: two words for each lift chosen.
 ghost use Rattle.std.specs.Prelude.{◌≡◌, ◌^◌, ◌≤◌, ◌<◌, length};
 ghost use Rattle.sheet.specs.Sheet.{most_rounds};
 ghost use Rattle.selection.specs.Choice.{pair};
-ghost use Rattle.panel.specs.Writing.{PairsFit, with_pairs, Answers};
+ghost use Rattle.panel.specs.Writing.{PairFits, PairsFit, with_pairs};
 
 use picks::Picks;
-use reply::{Answer, Refusal};
+use selection::Pick;
 use sheet::Sheet;
 
 // The kinds of a choice's two words: its round and outcome, and the number of its lift.
@@ -14,49 +14,27 @@ const CHOICE: u32 = 5;
 const CHOSEN: u32 = 6;
 
 // Writes the two words of a round's choice to its part of the output.
-fn write_pair(part: &mut [u32], round: usize, number: u32, outcome: u32)
+fn write_pair(part: &mut [u32], round: usize, pick: Pick)
     requires part_len { length part.old ≡ 2 }
-    requires round_le_most_rounds { round ≤ most_rounds }
-    requires number_bound { number < 2 ^ 28 }
-    requires outcome_bound { outcome ≤ 3 }
-    ensures { part.new ≡ pair round number outcome }
+    requires round_bound { round ≤ most_rounds }
+    requires pick_fits { PairFits pick }
+    ensures { part.new ≡ pair round pick.number pick.outcome }
 {
-    part[0] = Sheet::word(CHOICE, Sheet::place(round as u32, outcome));
-    part[1] = Sheet::word(CHOSEN, number);
+    part[0] = Sheet::word(CHOICE, Sheet::place(round as u32, pick.outcome));
+    part[1] = Sheet::word(CHOSEN, pick.number);
 }
 
-// Writes the choices of all rounds that have one, each to its own part of the output.
-fn write_pairs(numbers: &[u32; Sheet::TABLE], outcomes: &[u32; Sheet::TABLE], out: &mut [u32])
-    requires { PairsFit numbers.now outcomes.now (length out.old) }
-    ensures { out.new ≡ with_pairs numbers.now outcomes.now out.old }
+// Writes the lifts chosen, each round's pair to its own part of the output.
+pub fn write_pairs(picks: &Picks, out: &mut [u32])
+    requires { PairsFit picks.now (length out.old) }
+    ensures { out.new ≡ with_pairs picks.now out.old }
 {
     let mut start = 0;
-    let mut round = 1;
-    while round <= Sheet::MOST_ROUNDS {
-        let number = numbers[round];
-        let outcome = outcomes[round];
-        if outcome != 0 {
+    for (round, pick) in picks.iter().enumerate() {
+        if let Some(pick) = *pick {
             let end = start + 2;
-            write_pair(&mut out[start..end], round, number, outcome);
+            write_pair(&mut out[start..end], round, pick);
             start = end;
         }
-        round += 1;
     }
-}
-
-// Writes the choices and answers how many there are and how many words were read; or writes nothing and answers in which round the words
-// ended.
-pub fn write_choices(p: Picks, rounds: usize, start: usize, out: &mut [u32]) -> Answer
-    requires pairs_fit { p.short ≡ 0 → PairsFit p.numbers p.outcomes (length out.old) }
-    requires start_le_next { p.short ≡ 0 → start ≤ p.next }
-    ensures { Answers p rounds start result out.old out.new }
-{
-    let short = p.short;
-    if short != 0 {
-        return Answer::Refused(Refusal::Words(short));
-    }
-    let numbers = p.numbers;
-    let outcomes = p.outcomes;
-    write_pairs(&numbers, &outcomes, out);
-    Answer::Done(rounds, p.next - start)
 }

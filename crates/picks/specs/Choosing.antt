@@ -1,65 +1,61 @@
 -- The rounds of a sheet laid out as rows, and the choices of all rounds as the code gathers them.
-use Rattle.std.specs.Prelude.{ℕ, ◌+◌, ◌*◌, ◌<◌, ◌≡◌, cond, List, [], ◌∷◌, eqb, ltb, length, get_or, replicate}
+use Rattle.std.specs.Prelude.{ℕ, ◌≡◌, Option, None, Some, Result, Ok, Err, List, [], ◌∷◌, eqb, get_or}
 use Rattle.probability.specs.Initial.{Initial, elsewhere}
 use Rattle.probability.specs.Pieces.{pieces}
-use Rattle.round.specs.Choice.{Update, keyfitz, outcome}
+use Rattle.round.specs.Choice.{outcome}
+use Rattle.round.specs.declared.Selection.{Selection}
 use Rattle.round.specs.Rows.{row_length}
-use Rattle.round.specs.declared.Selected.{Selected}
-use Rattle.round.specs.declared.Selected.TheVariants.{At as AtPlace, Short}
-use Rattle.sheet.specs.Sheet.{most_rounds, kind, payload, held_kind}
-use Rattle.selection.specs.Choice.{by_update, Choice, Panel, chosen, short, by_round}
-use Rattle.selection.specs.Choice as selection
-use Rattle.picks.specs.declared.Way.{Way}
-use Rattle.picks.specs.declared.Way.TheVariants.{Fourth}
-use Rattle.picks.specs.declared.Step.{Step}
-use Rattle.picks.specs.declared.Step.TheVariants.{Passed, Chosen as ChosenLift, Short as Ended}
-use Rattle.picks.specs.declared.Picks.{Picks}
-
--- ---- the code's ways of choosing
-
--- the update of the preliminary lift that each makes
-abbrev pub update_of : Way → Update
-update_of Fourth = keyfitz
-
-abbrev pub way_of : Way → selection.Way
-way_of way = by_update (update_of way)
+use Rattle.sheet.specs.Sheet.{kind, payload, held_kind}
+use Rattle.reply.specs.declared.Refusal.{Refusal}
+use Rattle.reply.specs.declared.Refusal.TheVariants.{Words}
+use Rattle.rows.specs.Rows.{place_in}
+use Rattle.rows.specs.declared.LaidRound.{LaidRound}
+use Rattle.tally.specs.declared.OldRound.{OldRound}
+use Rattle.selection.specs.Choice.{Panel, chosen, short, by_round, none_chosen}
+use Rattle.selection.specs.declared.Pick.{Pick}
 
 -- ---- one round
 
--- the donors of a round, from a table with two numbers for each round; a number above the highest round stands for none
-abbrev pub donors_at : (pairs : List ℕ) → (round : ℕ) → List ℕ
-donors_at pairs r =
-    let first = get_or pairs (2 * r) 0 in
-    let second = get_or pairs (2 * r + 1) 0 in
-    cond (ltb most_rounds first) [] (cond (ltb most_rounds second) (first ∷ []) (first ∷ second ∷ []))
+-- the donors of a round
+abbrev pub both : Option ℕ → Option ℕ → List ℕ
+both None second = []
+both (Some t) None = t ∷ []
+both (Some t) (Some u) = t ∷ u ∷ []
 
--- where the held lift of a donor is, elsewhere if there is no such donor
-abbrev pub initial_by : (ℕ → Initial) → ℕ → Initial
-initial_by place t = cond (ltb most_rounds t) elsewhere (place t)
+abbrev pub donors_at : LaidRound → List ℕ
+donors_at x = both x.first x.second
+
+-- the sum of an old round in its table
+abbrev pub old_sum : List OldRound → ℕ → ℕ
+old_sum olds t = (get_or olds t (record { lifts = 0; held = 0; sum = 0 })).sum
+
+-- where the held lift of a donor is, from the rows of the held lifts; elsewhere if there is no such donor
+abbrev pub initial_by : LaidRound → List (Option ℕ) → Option ℕ → Initial
+initial_by x seats None = elsewhere
+initial_by x seats (Some t) = place_in x.begin x.end (get_or seats t None)
 
 -- where the held lifts of the two donors of a round are
-abbrev pub initials_at : (ℕ → Initial) → (pairs : List ℕ) → (round : ℕ) → List Initial
-initials_at place pairs r = initial_by place (get_or pairs (2 * r) 0) ∷ initial_by place (get_or pairs (2 * r + 1) 0) ∷ []
+abbrev pub initials_at : LaidRound → List (Option ℕ) → List Initial
+initials_at x seats = initial_by x seats x.first ∷ initial_by x seats x.second ∷ []
 
--- the choice of a round of these rows, by the lift's number and its own mark
-abbrev pub chosen_of : List ℕ → Selected → Step
-chosen_of rows (AtPlace i dropped next) =
-    let mark = get_or (get_or (pieces row_length rows) i []) 0 0 in ChosenLift (payload mark) (outcome (eqb (kind mark) held_kind) dropped) next
-chosen_of rows Short = Ended
+-- the lift chosen in a round of these rows, by its number and its own mark
+abbrev pub pick_at : List ℕ → Selection → Pick
+pick_at rows s =
+    let mark = get_or (get_or (pieces row_length rows) s.place []) 0 0 in record { number = payload mark; outcome = outcome (eqb (kind mark) held_kind) s.dropped }
 
--- a round without lifts is passed over
-abbrev pub step_of : List ℕ → Selected → Step
-step_of rows s = cond (eqb (length rows) 0) Passed (chosen_of rows s)
+-- with the position that the reader reached; none where the words ended
+abbrev pub picked_at : List ℕ → Option (Selection × ℕ) → Option (Pick × ℕ)
+picked_at rows (Some (s, next)) = Some (pick_at rows s, next)
+picked_at rows None = None
 
 -- ---- all rounds
 
--- the code's tables hold the choices of a panel
-pub record Gathers (cs : List Choice) (behind : ℕ) (p : Picks) : Type 0 where
-  pub numbers : p.numbers ≡ by_round (λ c. c.number) cs (replicate (most_rounds + 1) 0)
-  pub outcomes : p.outcomes ≡ by_round (λ c. c.outcome) cs (replicate (most_rounds + 1) 0)
-  pub next : p.next ≡ behind
-  pub finished : p.short ≡ 0
+-- the lifts chosen in a panel, by round; or 13, of the round in which the words ended
+abbrev pub picks_of : Panel → Result (List (Option Pick)) Refusal
+picks_of (chosen cs next) = Ok (by_round cs none_chosen)
+picks_of (short r) = Err (Words r)
 
-abbrev pub Picked : Panel → Picks → Type 0
-Picked (chosen cs next) p = Gathers cs next p
-Picked (short r) p = (0 < r) × (p.short ≡ r)
+-- where the words did not end, the reader stands behind the last word read
+abbrev pub Behind : Panel → ℕ → Type 0
+Behind (chosen cs next) at = at ≡ next
+Behind (short r) at = Unit {0}

@@ -10,8 +10,20 @@ use lib.Dec.{leb}
 use lib.ListN.{length, get_or, take, drop, set, length-append, length-drop}
 use lib.Seq.{slice, take-take, take_at, drop-drop, drop_at, get_or-take, get_or-drop, get_or_at, set_at, length-take-le, take_all, sets, length-sets, sets-eq}
 use borrow.Author.Tests.{leb-true, leb-false}
+use Rattle.std.specs.Simd.{first_chunks}
 use Rattle.probability.specs.Pieces.{cut, pieces}
 use Rattle.probability.proofs.Lists.{slice_lent}
+
+-- ---- the library's chunks
+
+chunks_cut : {A : Type 0} (k n : ℕ) (xs : List A) → first_chunks k n xs ≡ cut k n xs
+unfolding cut
+chunks_cut k zero xs = refl
+chunks_cut k (suc n) xs = ap (◌∷◌ (take k xs)) (chunks_cut k n (drop k xs))
+
+-- its whole chunks are the pieces
+pub chunks_pieces : {A : Type 0} (k : ℕ) (xs : List A) → first_chunks k (length xs / k) xs ≡ pieces k xs
+chunks_pieces k xs = chunks_cut k (length xs / k) xs
 
 -- ---- n pieces
 

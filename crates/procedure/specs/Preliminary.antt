@@ -1,26 +1,16 @@
 -- The preliminary lift as the code answers it.
-use Rattle.std.specs.Prelude.{ℕ, ◌≤◌, List}
+use Rattle.std.specs.Prelude.{ℕ, ◌≤◌, List, Option, Some, None, option_map}
 use Rattle.probability.specs.Branch.{Branch, absent, present}
 use Rattle.draw.specs.Draw.{largest}
-use Rattle.draw.specs.Run.{Run, finished, short, run}
-use Rattle.round.specs.declared.Seat.{Seat}
-use Rattle.round.specs.declared.Seat.TheVariants.{Here, Elsewhere}
-use Rattle.weights.specs.declared.Scale.{Scale}
-use Rattle.procedure.specs.declared.Proposed.{Proposed}
-use Rattle.procedure.specs.declared.Proposed.TheVariants.{None as NoLift, At as LiftAt, Short as Ended}
+use Rattle.draw.specs.Run.{run, answer}
 
--- the answer to a run that takes a lift: its place and the next position, or short
-abbrev pub placed : Run ℕ → Proposed
-placed (finished vs i next) = LiftAt i next
-placed short = Ended
-
--- the answer with the preliminary lift, from the random words ws, read from a position on
-abbrev pub proposed : List ℕ → ℕ → Branch → Proposed
-proposed ws at absent = NoLift
-proposed ws at (present p) = placed (run largest ws at p)
+-- the answer with the preliminary lift, if there is one, and the next position, from the random words ws, read from a position on
+abbrev pub proposed : List ℕ → ℕ → Branch → Option (Option ℕ × ℕ)
+proposed ws at absent = Some (None, at)
+proposed ws at (present p) = option_map (λ (x : ℕ × ℕ). (Some x.0, x.1)) (answer (run largest ws at p))
 
 -- if both donors' lifts are held here, there is a bound to draw below
-abbrev pub Contested : Scale → Seat → Seat → Type 0
-Contested s (Here i) (Here j) = 1 ≤ s.new
-Contested s (Here i) Elsewhere = Unit {0}
-Contested s Elsewhere y = Unit {0}
+abbrev pub Contested : (bound : ℕ) → Option ℕ → Option ℕ → Type 0
+Contested bound (Some i) (Some j) = 1 ≤ bound
+Contested bound (Some i) None = Unit {0}
+Contested bound None y = Unit {0}

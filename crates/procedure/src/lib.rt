@@ -1,156 +1,121 @@
 // The fourth procedure of document 002 for one round, with Keyfitz's update: which of its lifts is to carry the recorder, from random words.
 #![tactic(auto)]
 
-ghost use Rattle.std.specs.Prelude.{◌≡◌, cond, [], ◌∷◌, map, ◌≤◌, ◌<◌, ltb, length};
+ghost use Rattle.std.specs.Prelude.{◌≡◌, cond, map, ◌≤◌, ◌<◌, ltb, length};
 ghost use Rattle.probability.specs.Plan.{done, draw as draw_of};
-ghost use Rattle.draw.specs.Draw.{largest};
-ghost use Rattle.draw.specs.Run.{run};
+ghost use Rattle.draw.specs.Draw.{largest, reached};
+ghost use Rattle.draw.specs.Run.{run, answer};
 ghost use Rattle.round.specs.Round.{growth, G};
-ghost use Rattle.round.specs.Choice.{draw_place, preliminary_by, keyfitz, is_here, is_held, outcome as outcome_of, answer, selected};
-ghost use Rattle.round.specs.Rows.{row_lifts, initial_of, initials, Callable};
-ghost use Rattle.weights.specs.Scaling.{HasSums, scaled, WeightsFit, Balanced};
-ghost use Rattle.procedure.specs.Preliminary.{placed, proposed, Contested};
+ghost use Rattle.round.specs.Choice.{draw_place, preliminary_by, keyfitz, is_held, outcome as outcome_of, selected};
+ghost use Rattle.round.specs.Rows.{row_lifts, initials, Callable};
+ghost use Rattle.weights.specs.Scaling.{HasSums, weights_by, Balanced};
+ghost use Rattle.procedure.specs.Preliminary.{proposed, Contested};
 
-use draw::Drawn;
-use round::{Donors, Held, Seat, Selected};
-use weights::{Scale, Sums, WHOLLY, growth_sum, lift_at, multiplier, pick_lift, scaling};
-
-// The preliminary lift: none; its place, and the position behind the last word read; or the words ended.
-#[derive(Drop)]
-enum Proposed {
-    None,
-    At(usize, usize),
-    Short,
-}
-
-// Whether a held lift is at a place.
-fn is_here(seat: Seat, place: usize) -> bool
-    ensures { result ≡ is_here (initial_of seat) place }
-{
-    match seat {
-        Seat::Here(i) => i == place,
-        Seat::Elsewhere => false,
-    }
-}
+use draw::Reader;
+use round::{Donors, Held, Outcome, Selection};
+use weights::{Scale, Sums, Weighed};
 
 // Whether the lift at a place is one of the held lifts.
 pub fn is_held(held: Held, place: usize) -> bool
     ensures { result ≡ is_held (initials held) place }
 {
-    let first = held.first;
-    let second = held.second;
-    if is_here(first, place) {
-        return true;
-    }
-    is_here(second, place)
+    held.first == Some(place) || held.second == Some(place)
 }
 
-// The document's outcome of a choice.
+// The document's number of the outcome of a choice.
+#[tactic(auto, unfolding(round::specs::Choice::outcome))]
 pub fn outcome(held: bool, dropped: bool) -> u32
     ensures { result ≡ outcome_of held dropped }
 {
-    if held {
-        return 1;
-    }
-    if dropped {
-        return 2;
-    }
-    3
+    let outcome = match (held, dropped) {
+        (true, _) => Outcome::Held,
+        (false, true) => Outcome::Replacement,
+        (false, false) => Outcome::Fresh,
+    };
+    outcome as u32
 }
 
 // A draw below the sum of the growths picks the lift in whose interval it falls.
-fn draw_lift(s: Scale, rows: &[u32], dropped: bool, words: &[u64], at: usize) -> Selected
-    requires weights_fit { WeightsFit s (row_lifts rows.now) }
-    requires bound { 1 ≤ G (map (scaled s) (row_lifts rows.now)) }
-    ensures { let ws = map (scaled s) (row_lifts rows.now) in result ≡ answer (run largest words.now at (draw_place (G ws) (map growth ws) dropped)) }
+fn draw_lift(round: &Weighed, dropped: bool, words: &mut Reader) -> Option<Selection>
+    requires { 1 ≤ G (weights_by round.now.scale round.now.rows.now) }
+    ensures value { let ws = weights_by round.now.scale round.now.rows.now in reached result words.new.at ≡ answer (run largest words.old.words.now words.old.at (draw_place (G ws) (map growth ws) dropped)) }
+    ensures list { words.new.words ≡ words.old.words }
 {
-    let bound = growth_sum(s, rows);
-    match draw::draw_from(words, at, bound) {
-        Drawn::Value(q, next) => {
-            let place = pick_lift(s, rows, q);
-            Selected::At(place, dropped, next)
-        }
-        Drawn::Short => Selected::Short,
-    }
+    let q = words.draw(round.growth_sum())?;
+    let place = round.pick(q);
+    Some(Selection { place, dropped })
 }
 
-// Keyfitz's update of the preliminary lift at place i.
-fn update(s: Scale, rows: &[u32], i: usize, words: &[u64], at: usize) -> Selected
-    requires weights_fit { WeightsFit s (row_lifts rows.now) }
-    requires balanced { Balanced s (row_lifts rows.now) }
-    requires i_in_bounds { i < length (row_lifts rows.now) }
-    ensures { result ≡ answer (run largest words.now at (keyfitz (map (scaled s) (row_lifts rows.now)) i)) }
+// Keyfitz's update of the preliminary lift at a place.
+fn update(round: &Weighed, place: usize, words: &mut Reader) -> Option<Selection>
+    requires balanced { Balanced round.now.scale (row_lifts round.now.rows.now) }
+    requires place_in_bounds { place < length (row_lifts round.now.rows.now) }
+    ensures value { reached result words.new.at ≡ answer (run largest words.old.words.now words.old.at (keyfitz (weights_by round.now.scale round.now.rows.now) place)) }
+    ensures list { words.new.words ≡ words.old.words }
 {
-    let l = lift_at(rows, i);
-    let before = l.old * multiplier(s, l.donor);
-    let after = l.new * s.new;
-    if before <= after {
-        return Selected::At(i, false, at);
+    let stays = Selection {
+        place,
+        dropped: false,
+    };
+    let weight = round.weight_at(place);
+    if weight.old <= weight.new {
+        return Some(stays);
     }
-    match draw::draw_from(words, at, before) {
-        Drawn::Value(r, next) => {
-            if r < after {
-                Selected::At(i, false, next)
-            } else {
-                draw_lift(s, rows, true, words, next)
-            }
-        }
-        Drawn::Short => Selected::Short,
+    let r = words.draw(weight.old)?;
+    if r < weight.new {
+        return Some(stays);
     }
+    draw_lift(round, true, words)
 }
 
 // One of two held lifts, by a draw.
-fn draw_between(s: Scale, i: usize, j: usize, words: &[u64], at: usize) -> Proposed
+fn draw_between(s: Scale, i: usize, j: usize, words: &mut Reader) -> Option<usize>
     requires { 1 ≤ s.new }
-    ensures { result ≡ placed (run largest words.now at (draw_of s.new (λ v. cond (ltb v s.odds) (done i) (done j)))) }
+    ensures value { reached result words.new.at ≡ answer (run largest words.old.words.now words.old.at (draw_of s.new (λ v. cond (ltb v s.odds) (done i) (done j)))) }
+    ensures list { words.new.words ≡ words.old.words }
 {
-    match draw::draw_from(words, at, s.new) {
-        Drawn::Value(v, next) => {
-            if v < s.odds {
-                return Proposed::At(i, next);
-            }
-            Proposed::At(j, next)
-        }
-        Drawn::Short => Proposed::Short,
+    let v = words.draw(s.new)?;
+    Some(if v < s.odds { i } else { j })
+}
+
+// The preliminary lift, if there is one, from the held lifts: of two here, a draw says which.
+fn find_preliminary(s: Scale, held: Held, words: &mut Reader) -> Option<Option<usize>>
+    requires { Contested s.new held.first held.second }
+    ensures value { reached result words.new.at ≡ proposed words.old.words.now words.old.at (preliminary_by s.new s.odds (initials held)) }
+    ensures list { words.new.words ≡ words.old.words }
+{
+    match (held.first, held.second) {
+        (Some(i), Some(j)) => Some(Some(draw_between(s, i, j, words)?)),
+        (Some(i), None) => Some(Some(i)),
+        (None, second) => Some(second),
     }
 }
 
-// The preliminary lift, from the held lifts: of two here, a draw says which.
-fn find_preliminary(s: Scale, first: Seat, second: Seat, words: &[u64], at: usize) -> Proposed
-    requires { Contested s first second }
-    ensures { result ≡ proposed words.now at (preliminary_by s.new s.odds (initial_of first ∷ initial_of second ∷ [])) }
-{
-    match first {
-        Seat::Elsewhere => match second {
-            Seat::Elsewhere => Proposed::None,
-            Seat::Here(j) => Proposed::At(j, at),
-        },
-        Seat::Here(i) => match second {
-            Seat::Elsewhere => Proposed::At(i, at),
-            Seat::Here(j) => draw_between(s, i, j, words, at),
-        },
-    }
-}
-
-// The choice of a round, from its held lifts, its sums and the random words from position `at` on.
+// The choice of a round, from its held lifts, its sums and the random words from where the reader stands.
 pub fn select(
     rows: &[u32],
     donors: Donors,
     held: Held,
-    t: Sums,
-    words: &[u64],
-    at: usize,
-) -> Selected
+    sums: Sums,
+    words: &mut Reader,
+) -> Option<Selection>
     requires callable { Callable donors (row_lifts rows.now) held }
-    requires has_sums { HasSums donors (row_lifts rows.now) t }
-    ensures { result ≡ selected donors (row_lifts rows.now) (initials held) words.now at }
+    requires has_sums { HasSums donors (row_lifts rows.now) sums }
+    ensures value { reached result words.new.at ≡ selected donors (row_lifts rows.now) (initials held) words.old.words.now words.old.at }
+    ensures list { words.new.words ≡ words.old.words }
 {
-    let first = held.first;
-    let second = held.second;
-    let s = scaling(t, donors);
-    match find_preliminary(s, first, second, words, at) {
-        Proposed::None => draw_lift(WHOLLY, rows, false, words, at),
-        Proposed::At(i, next) => update(s, rows, i, words, next),
-        Proposed::Short => Selected::Short,
+    let scale = sums.scaling(donors);
+    match find_preliminary(scale, held, words)? {
+        None => {
+            let whole = Weighed {
+                scale: Scale::WHOLLY,
+                rows,
+            };
+            draw_lift(&whole, false, words)
+        }
+        Some(place) => {
+            let round = Weighed { scale, rows };
+            update(&round, place, words)
+        }
     }
 }

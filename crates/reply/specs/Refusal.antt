@@ -30,3 +30,8 @@ refusal_of (Next place) = numbered 17 place
 abbrev pub reply_of : Result Done Refusal → Reply
 reply_of (Err x) = of_refusal (refusal_of x)
 reply_of (Ok done) = replied done.many done.words
+
+-- the reply of a refusal, or else what follows
+abbrev pub refused_or : {A : Type 0} → Result A Refusal → Reply → Reply
+refused_or (Err x) otherwise = of_refusal (refusal_of x)
+refused_or (Ok a) otherwise = otherwise

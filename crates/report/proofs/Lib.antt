@@ -1,7 +1,7 @@
 pub mod Decimals
 pub mod Sizes
 pub mod Texts
-pub mod Words
+pub mod Decoding
 pub mod Pairs
 pub mod Reports
 pub mod Whole

@@ -1,36 +1,37 @@
--- The lines of output words: what is left of them, pair by pair; and those of the pairs of choices. Assumes nothing.
+-- The lines of output words, pair by pair; and those of the pairs of choices. Assumes nothing.
 use Prim.Native.Nat.{ℕ, suc, ◌+◌, ◌*◌, ◌/◌, ◌^◌, ◌≤◌, ◌<◌}
-use mathlib.Core.Path.{◌≡◌, refl}
+use mathlib.Core.Path.{◌≡◌, refl, ap}
 use mathlib.Core.List.Memᴰ
 use mathlib.Core.List.{List, [], ◌∷◌, ◌++◌, flat_map}
-use native.Mathlib.Nat.{add-zero}
 use native.Mathlib.Numerals.{add-one}
 use native.Mathlib.Omega.{arith}
 use lib.ListN.{length, get_or, take, drop, drop_of_length-le}
 use lib.Seq.{drop-cons}
-use Rattle.probability.specs.Pieces.{cut, pieces}
+use Rattle.std.specs.Simd.{first_chunks}
+use Rattle.probability.specs.Pieces.{cut}
 use Rattle.probability.proofs.Lists.{All}
-use Rattle.probability.proofs.Pieces.{length_pieces, piece_element, pieces_more}
+use Rattle.probability.proofs.Pieces.{chunks_pieces, pieces_more}
 use Rattle.sheet.specs.Sheet.{payload, place_of}
 use Rattle.sheet.proofs.Trips.{payload_word}
 use Rattle.selection.specs.Choice.{Choice, round_word, pair_of, written_pairs}
 use Rattle.selection.proofs.Choices.{Sound}
 use Rattle.report.specs.Report.{choice_line, choice_lines, pair_line, pair_lines}
 
--- the lines from pair k on
-unfoldable pub lines_from : List ℕ → ℕ → List ℕ
-lines_from ws k = flat_map pair_line (drop k (pieces 2 ws))
+-- the lines of the chunks that the code goes over
+pub chunk_lines : (ws : List ℕ) → flat_map pair_line (first_chunks 2 (length ws / 2) ws) ≡ pair_lines ws
+unfolding pair_lines
+chunk_lines ws = ap (flat_map pair_line) (chunks_pieces 2 ws)
 
--- are its line and those behind it
-pub left_pair : (ws : List ℕ) (k : ℕ) {round number outcome : ℕ} → k < length ws / 2 → round ≡ (place_of (get_or ws (2 * k) 0)).round
-    → number ≡ payload (get_or ws (2 * k + 1) 0) → outcome ≡ (place_of (get_or ws (2 * k) 0)).measure → lines_from ws k ≡ choice_line round number outcome ++ lines_from ws (k + 1)
-unfolding flat_map lines_from
-left_pair ws k h r n o =
-    rw (add-one k, drop-cons (pieces 2 ws) k [] (omega (arith, length_pieces 2 ws)), piece_element 2 ws k 0 0 h (omega arith), add-zero, piece_element 2 ws k 1 0 h (omega arith), r, n, o)
+-- what is left is the line of the next pair and what is left behind it
+pub next_line : (pairs : List (List ℕ)) (k : ℕ) {round number outcome : ℕ} (d : List ℕ) → k < length pairs → round ≡ (place_of (get_or (get_or pairs k d) 0 0)).round
+    → number ≡ payload (get_or (get_or pairs k d) 1 0) → outcome ≡ (place_of (get_or (get_or pairs k d) 0 0)).measure
+    → flat_map pair_line (drop k pairs) ≡ choice_line round number outcome ++ flat_map pair_line (drop (k + 1) pairs)
+unfolding flat_map
+next_line pairs k d h r n o = rw (add-one k, drop-cons pairs k d h, r, n, o)
 
-pub no_pair : (ws : List ℕ) (k : ℕ) → length ws / 2 ≤ k → lines_from ws k ≡ []
-unfolding flat_map lines_from
-no_pair ws k h = rw (drop_of_length-le (pieces 2 ws) {i = k} (omega (arith, length_pieces 2 ws)))
+pub no_line : (pairs : List (List ℕ)) (k : ℕ) → length pairs ≤ k → flat_map pair_line (drop k pairs) ≡ []
+unfolding flat_map
+no_line pairs k h = rw (drop_of_length-le pairs {i = k} h)
 
 -- ---- the pairs of choices
 

@@ -10,10 +10,11 @@ use lib.Seq.{take-length}
 use borrow.Author.Tests.{eq-eqb, ne_eqb, lt-ltb, ltb-true}
 use Rattle.sheet.specs.Sheet.{most_rounds, longest}
 use Rattle.reply.specs.Reply.{numbered, of_refusal}
+use Rattle.reply.specs.declared.Refusal.TheVariants.{Length}
 use Rattle.tally.specs.Verdict.{verdict_by}
 use Rattle.selection.specs.Choice.{fourth, reply}
 use Rattle.report.specs.Report.{sheet_words, random_words, refused_line, text_of, report, WholeTheorem}
-use Rattle.report.proofs.Words.{length_words}
+use Rattle.report.proofs.Decoding.{length_words}
 use Rattle.report.proofs.Reports.{text_refused}
 
 long_refused : (sheet ws : List ℕ) → longest < length sheet → reply fourth sheet ws 0 (2 * most_rounds) ≡ of_refusal (numbered 1 (length sheet))
@@ -29,5 +30,5 @@ whole sheet words h = rw (eq-eqb (length sheet % 4) 0 h) (go (ltb longest (lengt
     go true q =
         let n = length_words 4 sheet in
         let r = long_refused (sheet_words sheet) (random_words words) (rw n (ltb-true _ _ q)) in
-        sym (rw n at (text_refused (sheet_words sheet) (random_words words) (sym r) (omega arith)))
+        rw n at (text_refused (sheet_words sheet) (random_words words) (Length (length (sheet_words sheet))) (sym r))
     go false q = rw (take-length sheet)

@@ -1,5 +1,5 @@
 -- "The program" of document 01: from the bytes of both files to the printed text.
-use Rattle.std.specs.Prelude.{ℕ, zero, suc, ◌+◌, ◌*◌, ◌/◌, ◌%◌, ◌≤◌, min, ◌≡◌, cond, eqb, ltb, length, get_or, take, drop}
+use Rattle.std.specs.Prelude.{ℕ, zero, suc, ◌+◌, ◌*◌, ◌/◌, ◌%◌, min, ◌≡◌, cond, eqb, ltb, length, get_or, take}
 use mathlib.Core.List.{List, [], ◌∷◌, ◌++◌, map, flat_map}
 use Rattle.probability.specs.Pieces.{pieces}
 use Rattle.sheet.specs.Sheet.{most_rounds, longest, payload, place_of, lifts}
@@ -122,29 +122,9 @@ pair_line p = choice_line (place_of (get_or p 0 0)).round (payload (get_or p 1 0
 unfoldable pub pair_lines : List ℕ → List ℕ
 pair_lines ws = flat_map pair_line (pieces 2 ws)
 
--- what is printed of a reply and the output words
-abbrev pub printed_words : Reply → List ℕ → List ℕ
-printed_words r out = printed r (pair_lines (take (2 * r.second) out))
-
 -- room for every text
 abbrev pub text_room : ℕ
 text_room = 2048
-
--- if a reply is no refusal, its choices stand in the output words, and their text has room
-abbrev pub Printable : Reply → List ℕ → Type 0
-Printable r out =
-    r.number ≡ 0 → (2 * r.second ≤ length out) × (length (pair_lines (take (2 * r.second) out) ++ words_line r.third) ≤ text_room)
-
--- the first n words are ws
-pub record Decoded (ws words : List ℕ) (n : ℕ) : Type 0 where
-  pub is : take n words ≡ ws
-  pub count : n ≡ length ws
-  pub fits : n ≤ length words
-
--- `text` is `old` with `new` written from a position on, and `next` is the position behind it
-pub record Appended (old : List ℕ) (from : ℕ) (new text : List ℕ) (next : ℕ) : Type 0 where
-  pub is : text ≡ take from old ++ (new ++ drop (from + length new) old)
-  pub ends : next ≡ from + length new
 
 -- proved: a sheet of bytes divisible by 4, however long, has the text of its words
 abbrev pub WholeTheorem : Type 0

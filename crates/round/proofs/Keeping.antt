@@ -17,12 +17,14 @@ use Rattle.probability.proofs.Tests.{eqb_comm}
 use Rattle.probability.proofs.Sums.{over_ext, Σ-mono, Σ-mul, Σ-map, Σ-term}
 use Rattle.probability.proofs.Fractions.{≈-refl, ≈-sym, ≈-trans, ≲-≈, ≈-num, ⊕-same, ⊗-≈, sum-≈}
 use Rattle.probability.proofs.Masses.{weighed}
-use Rattle.round.specs.Round.{lift_at, S, measure_from, U, D, old_weight, Weight, weights, weight_at, G, WellPosed}
-use Rattle.round.specs.Choice.{Selection, Update, fresh, single, preliminary_by, plan_by, is_held}
+use Rattle.round.specs.Round.{lift_at, S, measure_from, U, D, old_weight, weights, weight_at, G, WellPosed}
+use Rattle.round.specs.Choice.{Update, fresh, single, preliminary_by, plan_by, is_held}
 use Rattle.round.specs.Share.{mean_over_initial, mean_over_donors, chooses, smaller, SameSum, Exact, Staying}
 use Rattle.round.specs.Keep.{round_kept, Coupling, tickets, kept_tickets, Attained, Best, KeepsTheorem}
+use Rattle.round.specs.declared.Selection.{Selection}
 use Rattle.round.specs.declared.Donors.TheVariants.{One}
 use Rattle.round.specs.declared.Lift.{Lift}
+use Rattle.round.specs.declared.Weight.{Weight}
 use Rattle.round.proofs.WeightSums.{losses}
 use Rattle.round.proofs.Keyfitz.{none, passes, unit_of, arrives, leaves, own}
 use Rattle.round.proofs.Shares.{weight_at_lem, length_weights, same_sum, every_fresh}

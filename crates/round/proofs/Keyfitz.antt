@@ -17,7 +17,8 @@ use Rattle.probability.proofs.Sums.{over_ext, Σ-add, Σ-mul, Σ-one, Σ-map, ma
 use Rattle.probability.proofs.Intervals.{pick_some}
 use Rattle.probability.proofs.Fractions.{≈-refl, ≈-trans, ⊕-same, ⊗-≈, ⊗-comm, ⊗-part, cancel, sum_same}
 use Rattle.probability.proofs.Masses.{mass_cut, mass_hits}
-use Rattle.round.specs.Round.{Weight, weight_at, growth, G}
+use Rattle.round.specs.Round.{weight_at, growth, G}
+use Rattle.round.specs.declared.Weight.{Weight}
 use Rattle.round.specs.Choice.{selection, draw_place, stay_or, keyfitz}
 use Rattle.round.specs.Share.{chooses, smaller, SameSum, Exact, Staying}
 use Rattle.round.proofs.WeightSums.{loss, losses, dropped_G}

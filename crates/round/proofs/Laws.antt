@@ -16,13 +16,14 @@ use Rattle.probability.specs.Branch.{Branch, absent, present, join, update_or, E
 use Rattle.probability.proofs.Intervals.{pick_some}
 use Rattle.probability.proofs.Fractions.{pos_left}
 use Rattle.probability.proofs.Masses.{every_map, every_after, every_cond}
-use Rattle.round.specs.Round.{lift_at, S, D, Weight, old_weight, new_weight, weights, weight_at, whole_sums, WellPosed}
+use Rattle.round.specs.Round.{lift_at, S, D, old_weight, new_weight, weights, weight_at, whole_sums, WellPosed}
 use Rattle.round.specs.Choice.{draw_place, fresh, single, initial_at, first_odds, preliminary_by, preliminary, stay_or, keyfitz, plan_by, plan, outcome}
 use Rattle.round.specs.Rows.{lift_of_measures, Bounded, IfHere, Inside, Stands}
 use Rattle.round.specs.Law.{Fits64, Weighty, LawsTheorem}
 use Rattle.round.specs.declared.Donors.{Donors}
 use Rattle.round.specs.declared.Donors.TheVariants.{None, One, Two}
 use Rattle.round.specs.declared.Lift.{Lift}
+use Rattle.round.specs.declared.Weight.{Weight}
 use Rattle.round.proofs.WeightSums.{old_sum, new_sum, losses, dropped_G, G_le, D_bound, weight_bound}
 use Rattle.round.proofs.Keyfitz.{none, arrival, keyfitz_exact}
 use Rattle.round.proofs.Preliminaries.{by_donors, knows}
@@ -110,7 +111,7 @@ module _ (ds : Donors) (ls : List Lift) (f : WellPosed ds ls) (xs : List Initial
       go true q = (knows ds ls (leb-true 1 (length (whole_sums ds)) q) f.donate).known.divisor
       go false q =
           let none = (stands_at (whole_sums ds) xs (length ls) s k).1 (omega (arith, leb-false 1 (length (whole_sums ds)) q)) in
-          let z : ◌≡◌ {A = ℕ} 0 1 = cc in absurd (omega arith)
+          absurd (cc)
 
   pub placed_preliminary : TakenBelow (length ls) (preliminary ds ls xs)
   unfolding preliminary_by

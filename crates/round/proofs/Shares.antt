@@ -15,12 +15,13 @@ use Rattle.probability.proofs.Sums.{over_ext}
 use Rattle.probability.proofs.Fractions.{pos_left, ≈-refl, ≈-trans}
 use Rattle.probability.proofs.Masses.{weighed, mass_den, mass_hits, every_map, every_after}
 use Rattle.probability.proofs.Dichotomy.{prelim, branch_shares}
-use Rattle.round.specs.Round.{lift_at, S, D, old_weight, new_weight, Weight, weights, weight_at, WellPosed}
+use Rattle.round.specs.Round.{lift_at, S, D, old_weight, new_weight, weights, weight_at, WellPosed}
 use Rattle.round.specs.Choice.{selection, Update, draw_place, fresh, single, preliminary_by, preliminary, plan_by}
 use Rattle.round.specs.Share.{mean_over_donors, mean_over_held, chooses, taken_weight, SameSum, Exact, round_share, Shares, SharesTheorem}
 use Rattle.round.specs.declared.Donors.{Donors}
 use Rattle.round.specs.declared.Donors.TheVariants.{None}
 use Rattle.round.specs.declared.Lift.{Lift}
+use Rattle.round.specs.declared.Weight.{Weight}
 use Rattle.round.proofs.WeightSums.{cross_measure, old_cross, old_sum, new_sum}
 use Rattle.round.proofs.Preliminaries.{Knows, by_donors, knows}
 

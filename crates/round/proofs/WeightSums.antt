@@ -7,11 +7,12 @@ use native.Mathlib.Omega.{arith}
 use lib.ListN.{length}
 use Rattle.probability.specs.Sum.{total}
 use Rattle.probability.proofs.Sums.{total_map, total_mul, total_add, map_le, total_by_map}
-use Rattle.round.specs.Round.{S, measure_from, U, D, old_weight, new_weight, Weight, weights, weight_at, G, whole_sums, AreDonors, WellPosed}
+use Rattle.round.specs.Round.{S, measure_from, U, D, old_weight, new_weight, weights, weight_at, G, whole_sums, AreDonors, WellPosed}
 use Rattle.round.specs.Rows.{capacity, Bounded, SumsBounded}
 use Rattle.round.specs.declared.Donors.{Donors}
 use Rattle.round.specs.declared.Donors.TheVariants.{None, One, Two}
 use Rattle.round.specs.declared.Lift.{Lift}
+use Rattle.round.specs.declared.Weight.{Weight}
 
 -- what a unit loses, where its growth is below zero
 abbrev pub loss : Weight → ℕ

@@ -1,16 +1,17 @@
 -- "One round" of document 01: the choice, as one tree of draws, by any update of the preliminary lift.
-use Rattle.std.specs.Prelude.{ℕ, ◌*◌, Bool, true, false, cond, ◌||◌, List, [], ◌∷◌, map, leb, ltb, eqb, get_or, Option, Some, None as Nothing}
+use Rattle.std.specs.Prelude.{ℕ, ◌*◌, Bool, true, false, cond, ◌||◌, List, [], ◌∷◌, map, leb, ltb, eqb, get_or, Option}
 use Rattle.probability.specs.Interval.{pick}
 use Rattle.probability.specs.Initial.{Initial, here, elsewhere}
 use Rattle.probability.specs.Plan.{Plan, done, draw}
 use Rattle.probability.specs.Branch.{Branch, absent, present, join, update_or}
 use Rattle.draw.specs.Draw.{largest}
-use Rattle.draw.specs.Run.{Run, finished, short, run}
-use Rattle.round.specs.Round.{S, U, D, Weight, weights, weight_at, growth, G}
+use Rattle.draw.specs.Run.{run, answer}
+use Rattle.round.specs.Round.{S, U, D, weights, weight_at, growth, G}
 use Rattle.round.specs.declared.Donors.{Donors}
 use Rattle.round.specs.declared.Donors.TheVariants.{None, One, Two}
 use Rattle.round.specs.declared.Lift.{Lift}
-pub use Rattle.round.specs.declared.Selection.{Selection}
+use Rattle.round.specs.declared.Selection.{Selection}
+use Rattle.round.specs.declared.Weight.{Weight}
 
 -- the choice of the lift at a place, and whether a preliminary lift was dropped for it
 abbrev pub selection : ℕ → Bool → Selection
@@ -95,12 +96,7 @@ outcome held dropped = cond held 1 (cond dropped 2 3)
 
 -- ---- from random words
 
--- the answer to a run of the choice: the choice and the next position, or none where the words ended
-abbrev pub answer : Run Selection → Option (Selection × ℕ)
-answer (finished vs s next) = Some (s, next)
-answer short = Nothing
-
--- the choice by an update from the random words ws, read from a position on
+-- the choice by an update and the next position, from the random words ws, read from a position on
 abbrev pub selected_by : Update → Donors → List Lift → List Initial → List ℕ → ℕ → Option (Selection × ℕ)
 selected_by update ds ls xs ws at = answer (run largest ws at (plan_by update ds ls xs))
 

@@ -4,12 +4,13 @@ use Rattle.std.specs.Prelude.{ℕ, ◌*◌, ◌<◌, ◌≡◌, List, map, lengt
 use Rattle.probability.specs.Sum.{Σ, total}
 use Rattle.probability.specs.Fraction.{Fraction, ◌//◌, ◌⊗◌, ◌≈◌, ◌≲◌}
 use Rattle.probability.specs.Plan.{paths, weight}
-use Rattle.round.specs.Round.{S, U, D, Weight, weights, weight_at, WellPosed}
+use Rattle.round.specs.Round.{S, U, D, weights, weight_at, WellPosed}
 use Rattle.round.specs.Choice.{Update, plan_by, is_held}
 use Rattle.round.specs.Share.{mean_over_held, smaller, Exact, Staying}
 use Rattle.round.specs.declared.Donors.{Donors}
 use Rattle.round.specs.declared.Donors.TheVariants.{One}
 use Rattle.round.specs.declared.Lift.{Lift}
+use Rattle.round.specs.declared.Weight.{Weight}
 
 -- "what the ways weigh whose lift is held in their own marking"
 unfoldable pub round_kept : Update → Donors → List Lift → Fraction

@@ -1,10 +1,11 @@
 -- "One round" of document 01: the lifts of a new round, its sums, and the weights and growths of its lifts. A lift is the code's
--- `Lift`: old measure, donor and new measure.
+-- `Lift`: old measure, donor and new measure; its weights are the code's `Weight`.
 use Rattle.std.specs.Prelude.{ℕ, suc, ◌+◌, ◌-◌, ◌*◌, ◌≤◌, ◌<◌, List, [], ◌∷◌, map, get_or}
 use Rattle.probability.specs.Sum.{total, value_by, total_by}
 use Rattle.round.specs.declared.Donors.{Donors}
 use Rattle.round.specs.declared.Donors.TheVariants.{None, One, Two}
 use Rattle.round.specs.declared.Lift.{Lift}
+use Rattle.round.specs.declared.Weight.{Weight}
 
 -- the lift at a place of the round; one of measure 0 beyond the last
 abbrev pub lift_at : List Lift → ℕ → Lift
@@ -37,11 +38,6 @@ old_weight (Two T₁ T₂) ls l = (measure_from 1 l * T₂ + measure_from 2 l * 
 -- "New weight is b × D."
 unfoldable pub new_weight : Donors → List Lift → Lift → ℕ
 new_weight ds ls l = l.new * D ds ls
-
--- the old and the new weight of a unit
-pub record Weight : Type 0 where
-  pub old : ℕ
-  pub new : ℕ
 
 -- the weights of the round's lifts, in lift order
 unfoldable pub weights : Donors → List Lift → List Weight

@@ -5,10 +5,12 @@ use Rattle.probability.specs.Initial.{Initial, here, elsewhere}
 use Rattle.probability.specs.Fraction.{Fraction, ◌//◌, ◌⊕◌, ◌⊗◌, ◌≈◌, sum}
 use Rattle.probability.specs.Plan.{Drawable, paths, weight, mass}
 use Rattle.probability.specs.Branch.{Branch, absent, present, presence}
-use Rattle.round.specs.Round.{lift_at, S, measure_from, U, D, old_weight, Weight, weight_at, whole_sums, WellPosed}
-use Rattle.round.specs.Choice.{Selection, Update, preliminary, plan_by}
+use Rattle.round.specs.Round.{lift_at, S, measure_from, U, D, old_weight, weight_at, whole_sums, WellPosed}
+use Rattle.round.specs.Choice.{Update, preliminary, plan_by}
+use Rattle.round.specs.declared.Selection.{Selection}
 use Rattle.round.specs.declared.Donors.{Donors}
 use Rattle.round.specs.declared.Lift.{Lift}
+use Rattle.round.specs.declared.Weight.{Weight}
 
 -- ---- the mean over initial selections
 

@@ -7,13 +7,14 @@ use Rattle.draw.specs.Draw.{largest, draw_at}
 use Rattle.draw.specs.Worked.{same_drawn}
 use Rattle.round.specs.Round.{lift_at, S, D, weights, G}
 use Rattle.probability.specs.Initial.{Initial, here, elsewhere}
-use Rattle.round.specs.Choice.{Selection, keyfitz, is_held, outcome, selected}
+use Rattle.round.specs.Choice.{keyfitz, is_held, outcome, selected}
 use Rattle.round.specs.Share.{round_share}
 use Rattle.round.specs.Keep.{round_kept, tickets, kept_tickets}
 use Rattle.round.specs.Rows.{lift_of_measures}
 use Rattle.round.specs.declared.Donors.{Donors}
 use Rattle.round.specs.declared.Donors.TheVariants.{None, One, Two}
 use Rattle.round.specs.declared.Lift.{Lift}
+use Rattle.round.specs.declared.Selection.{Selection}
 
 -- the place of the chosen lift, the outcome, and the position behind the last word read
 abbrev chose : ℕ → ℕ → ℕ → List ℕ

@@ -24,6 +24,14 @@ pub struct Selection {
     pub dropped: bool,
 }
 
+// The outcomes of a choice, with the document's numbers: a held lift; another in the place of a dropped one; or a fresh one.
+#[derive(Clone, Copy)]
+pub enum Outcome {
+    Held = 1,
+    Replacement = 2,
+    Fresh = 3,
+}
+
 // A lift of the round: "m and b are a lift's old and new measures"; the donor that it comes from is 1 or 2, or 0 for none.
 #[derive(Clone, Copy)]
 pub struct Lift {
@@ -50,5 +58,24 @@ impl From<[u32; Lift::ROW]> for Lift {
             donor,
             new: u64::from(new),
         }
+    }
+}
+
+// The old and the new weight of a unit.
+#[derive(Clone, Copy)]
+pub struct Weight {
+    pub old: u64,
+    pub new: u64,
+}
+
+impl Weight {
+    ghost use Rattle.std.specs.Prelude.{◌≡◌};
+    ghost use Rattle.round.specs.Round.{growth};
+
+    // The growth where it is above zero, else 0.
+    pub fn growth(self) -> u64
+        ensures { result ≡ growth self }
+    {
+        self.new.saturating_sub(self.old)
     }
 }

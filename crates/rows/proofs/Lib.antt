@@ -1,4 +1,5 @@
 pub mod SettingBits
 pub mod Pairing
 pub mod Placing
+pub mod Starting
 pub mod Seating

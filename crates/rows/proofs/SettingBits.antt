@@ -1,24 +1,22 @@
 -- The bits that are set in a number: the lowest, those that are left without it, and those of a number made of bits.
-use Prim.Native.Nat.{ℕ, zero, suc, ◌+◌, ◌-◌, ◌*◌, ◌/◌, ◌%◌, ◌^◌, ◌≤◌, ◌<◌}
-use mathlib.Core.Path.{◌≡◌, refl, sym, ap, ap₂, ◌∙◌}
+use Prim.Native.Nat.{ℕ, zero, suc, ◌+◌, ◌-◌, ◌*◌, ◌/◌, ◌%◌, ◌^◌, ◌<◌}
+use mathlib.Core.Path.{◌≡◌, refl, sym, ap, ◌∙◌}
 use mathlib.Core.Bool.{Bool, true, false, cond}
 use mathlib.Core.List.{List, [], ◌∷◌, ◌++◌, append-nil}
 use native.Mathlib.Nat.{pow-suc, add-zero, zero-add}
 use native.Mathlib.Omega.{arith}
+use lib.Bits.{bit_and, and_step, and_self}
 use lib.Count.{count_trailing_zeros, under}
 use lib.Dec.{eqb}
-use lib.ListN.{get_or, set}
 use Rattle.probability.specs.Sum.{indicator}
 use Rattle.sheet.specs.Sheet.{most_rounds, Lift}
 use Rattle.tally.specs.Rounds.{filter_range, rounds, sends, donors}
-use Rattle.tally.specs.Tables.{bits}
-use Rattle.rows.specs.SetBits.{set_from, set_bits, no_bit, two_at, first_two}
+use Rattle.tally.specs.Tables.{bits, donor_bits}
+use Rattle.rows.specs.SetBits.{set_from, set_bits}
 use Rattle.sheet.specs.Law.{AllWellFormed}
-use Rattle.tally.proofs.Tables.{get_or_tabulate}
 use Rattle.tally.proofs.Bits.{low, high}
 use Rattle.tally.proofs.Ranges.{filter_cut, filter_none, filter_head}
 use Rattle.tally.proofs.Sending.{sends_none, from_nowhere, from_beyond}
-use Rattle.tally.proofs.Filling.{Filled, filled_turn}
 
 -- ---- one bit more
 
@@ -55,90 +53,32 @@ module _ (n w : ℕ) (b : Bool) (x : ℕ) (e : w ≡ indicator b + 2 * x) where
 
 -- ---- the lowest
 
--- the number of zeros below the lowest bit that is set is its place; where none is set, it is the place behind the last bit
-pub set_first : (a n d w : ℕ) → d ≡ a + n → get_or (set_from a n w) 0 d ≡ a + count_trailing_zeros n w
-unfolding set_from count_trailing_zeros
-set_first a zero d w q = q
-set_first a (suc n) d w q = go (halved w).bit (halved w).rest (halved w).same (λ x. set_first (suc a) n d x (omega arith))
+-- of the n bits of a number that are set, the lowest stands above the zeros; the others are those of the number without it
+pub set_lowest : (a n w : ℕ) → 0 < w → w < 2 ^ n → set_from a n w ≡ (a + count_trailing_zeros n w) ∷ set_from a n (bit_and w (w - 1))
+set_lowest a zero w p h = absurd (omega arith)
+set_lowest a (suc n) w p h = go (halved w).bit (halved w).rest (halved w).same (set_lowest (suc a) n)
   where
-    go : (b : Bool) (x : ℕ) → w ≡ indicator b + 2 * x → ((y : ℕ) → get_or (set_from (suc a) n y) 0 d ≡ suc a + count_trailing_zeros n y)
-        → get_or (set_from a (suc n) w) 0 d ≡ a + count_trailing_zeros (suc n) w
-    go true x e ih = rw (set_step n w true x e a, zeros_step n w true x e) (omega arith)
-    go false x e ih = rw (set_step n w false x e a, zeros_step n w false x e) (omega (arith, ih x))
-
--- bit t is the lowest of the n bits of w that is set: those that are set are t and those of w without it
-pub record Lowest (n w t : ℕ) : Type 0 where
-  pub place : t < n
-  pub weight : 2 ^ t ≤ w
-  pub rest : (a : ℕ) → set_from a n w ≡ (a + t) ∷ set_from a n (w - 2 ^ t)
-
-pub lowest_set : (n w : ℕ) → 0 < w → w < 2 ^ n → Lowest n w (count_trailing_zeros n w)
-lowest_set zero w p h = absurd (omega arith)
-lowest_set (suc n) w p h = go (halved w).bit (halved w).rest (halved w).same (lowest_set n)
-  where
-    go : (b : Bool) (x : ℕ) → w ≡ indicator b + 2 * x → ((y : ℕ) → 0 < y → y < 2 ^ n → Lowest n y (count_trailing_zeros n y))
-        → Lowest (suc n) w (count_trailing_zeros (suc n) w)
+    go : (b : Bool) (x : ℕ) → w ≡ indicator b + 2 * x → ((y : ℕ) → 0 < y → y < 2 ^ n → set_from (suc a) n y ≡ (suc a + count_trailing_zeros n y) ∷ set_from (suc a) n (bit_and y (y - 1)))
+        → set_from a (suc n) w ≡ (a + count_trailing_zeros (suc n) w) ∷ set_from a (suc n) (bit_and w (w - 1))
     go true x e ih =
-        rw (zeros_step n w true x e) (record {
-          place = omega arith;
-          weight = omega arith;
-          rest = λ a. set_step n w true x e a ∙ ap₂ ◌∷◌ (sym (add-zero a)) (sym (set_step n (w - 2 ^ 0) false x (omega arith) a));
-        })
+        let f : w - 1 ≡ indicator false + 2 * x = omega arith in
+        let r : bit_and w (w - 1) ≡ indicator false + 2 * x = rw (and_step w (w - 1), f, e, low true x, high true x, low false x, high false x, and_self x) (omega arith) in
+        rw (set_step n w true x e a, set_step n (bit_and w (w - 1)) false x r a, zeros_step n w true x e, add-zero) refl
     go false x e ih =
-        let t : ℕ = count_trailing_zeros n x in
-        let r = ih x (omega arith) (omega (arith, pow-suc 2 n)) in
-        let k : w - 2 ^ suc t ≡ indicator false + 2 * (x - 2 ^ t) = omega (arith, pow-suc 2 t) in
-        rw (zeros_step n w false x e) (record {
-          place = omega (arith, r.place);
-          weight = omega (arith, r.weight, pow-suc 2 t);
-          rest = λ a. set_step n w false x e a ∙ r.rest (suc a) ∙ ap₂ ◌∷◌ (omega arith) (sym (set_step n (w - 2 ^ suc t) false (x - 2 ^ t) k a));
-        })
+        let f : w - 1 ≡ indicator true + 2 * (x - 1) = omega arith in
+        let r : bit_and w (w - 1) ≡ indicator false + 2 * bit_and x (x - 1) = rw (and_step w (w - 1), f, e, low false x, high false x, low true (x - 1), high true (x - 1)) (omega arith) in
+        rw (set_step n w false x e a, set_step n (bit_and w (w - 1)) false (bit_and x (x - 1)) r a, zeros_step n w false x e, ih x (omega arith) (omega (arith, pow-suc 2 n)))
+        (ap (λ t. t ∷ set_from (suc a) n (bit_and x (x - 1))) (omega arith))
+
+-- of a word of 128 bits
+pub word_lowest : (w : ℕ) → 0 < w → w < 2 ^ 128 → set_bits w ≡ count_trailing_zeros 128 w ∷ set_bits (bit_and w (w - 1))
+word_lowest w p h = set_lowest 0 128 w p h ∙ ap (λ t. t ∷ set_bits (bit_and w (w - 1))) (zero-add (count_trailing_zeros 128 w))
 
 -- no bit is set in 0
 pub set_none : (a n : ℕ) → set_from a n 0 ≡ []
 unfolding set_from
 set_none a zero = refl
 set_none a (suc n) = set_none (suc a) n
-
--- ---- two words
-
-module _ (low high : ℕ) where
-  -- the lowest bit that is set, and the others, where it is in the low word
-  pub set_low : 0 < low → low < 2 ^ 64 → set_bits low high ≡ count_trailing_zeros 64 low ∷ set_bits (low - 2 ^ count_trailing_zeros 64 low) high
-  set_low p h = ap (λ l. l ++ set_from 64 64 high) ((lowest_set 64 low p h).rest 0) ∙ ap (λ t. t ∷ set_bits (low - 2 ^ count_trailing_zeros 64 low) high) (zero-add _)
-
-  -- and where it is in the high word
-  pub set_high : low ≡ 0 → 0 < high → high < 2 ^ 64 → set_bits low high ≡ (64 + count_trailing_zeros 64 high) ∷ set_bits 0 (high - 2 ^ count_trailing_zeros 64 high)
-  set_high e p h = rw (e, set_none 0 64) ((lowest_set 64 high p h).rest 64)
-
-  pub high_first : low ≡ 0 → get_or (set_bits low high) 0 no_bit ≡ 64 + count_trailing_zeros 64 high
-  high_first e = rw (e, set_none 0 64) (set_first 64 64 no_bit high refl)
-
-  -- where none is set
-  pub none_set : low ≡ 0 → high ≡ 0 → set_bits low high ≡ []
-  none_set e f = rw (e, f, set_none 0 64, set_none 64 64)
-
--- ---- pairs of words
-
--- bit i of pair r
-pub two_at_lem : (words : List ℕ) (k r i : ℕ) → k ≡ 2 * r + i → i < 2 → two_at words k ≡ get_or (set_bits (get_or words (2 * r) 0) (get_or words (2 * r + 1) 0)) i no_bit
-two_at_lem words k r i e h =
-    let x : k / 2 ≡ r = omega arith in
-    let y : k % 2 ≡ i = omega arith in
-    rw (x, y)
-
-pub first_two_at : (words : List ℕ) (k r i : ℕ) → k ≡ 2 * r + i → i < 2 → r ≤ most_rounds
-    → get_or (first_two words) k 0 ≡ get_or (set_bits (get_or words (2 * r) 0) (get_or words (2 * r + 1) 0)) i no_bit
-first_two_at words k r i e h l = get_or_tabulate (2 * (most_rounds + 1)) (two_at words) k (omega arith) ∙ two_at_lem words k r i e h
-
--- one pair more
-pub two_turn : (words : List ℕ) {n : ℕ} {tbl tbl' : List ℕ} {r a b : ℕ} → Filled (2 * n) (two_at words) tbl (2 * r) → r < n
-    → a ≡ get_or (set_bits (get_or words (2 * r) 0) (get_or words (2 * r + 1) 0)) 0 no_bit → b ≡ get_or (set_bits (get_or words (2 * r) 0) (get_or words (2 * r + 1) 0)) 1 no_bit
-    → tbl' ≡ set (set tbl (2 * r) a) (2 * r + 1) b → Filled (2 * n) (two_at words) tbl' (2 * (r + 1))
-two_turn words {n} {r = r} t h ea eb q =
-    let e : 2 * (r + 1) ≡ 2 * r + 1 + 1 = omega arith in
-    let one = filled_turn t (omega arith) (ea ∙ sym (two_at_lem words (2 * r) r 0 (omega arith) (omega arith))) refl in
-    rw e (filled_turn one (omega arith) (eb ∙ sym (two_at_lem words (2 * r + 1) r 1 refl (omega arith))) q)
 
 -- ---- numbers made of bits
 
@@ -150,21 +90,21 @@ set_bits_lem p a (suc n) {q} h =
     set_step n (bits (suc n) q) (q 0) (bits n (λ t. q (suc t))) refl a
     ∙ rw (h 0, add-zero a, set_bits_lem p (suc a) n {q = λ t. q (suc t)} (λ t. h (suc t) ∙ ap p (omega arith)))
 
--- those of two words are the rounds, if neither 0 nor a number beyond the last round passes
-two_words : (p : ℕ → Bool) → p 0 ≡ false → ((t : ℕ) → most_rounds < t → p t ≡ false) → filter_range p 0 64 ++ filter_range p 64 64 ≡ rounds p
-two_words p none beyond =
+-- those of 128 bits are the rounds, if neither 0 nor a number beyond the last round passes
+all_rounds : (p : ℕ → Bool) → p 0 ≡ false → ((t : ℕ) → most_rounds < t → p t ≡ false) → filter_range p 0 128 ≡ rounds p
+all_rounds p none beyond =
     let n : ℕ = 127 - most_rounds in
     let first : filter_range p 0 1 ≡ [] = filter_none p 0 1 (λ t _ h. let e : t ≡ 0 = omega arith in rw e none) in
     let last : filter_range p (most_rounds + 1) n ≡ [] = filter_none p (most_rounds + 1) n (λ t h _. beyond t (omega arith)) in
-    sym (filter_cut p 0 64 64 {b = 64} {k = 128} refl refl) ∙ filter_cut p 0 1 127 {b = 1} {k = 128} refl refl ∙ ap (λ l. l ++ filter_range p 1 127) first
+    filter_cut p 0 1 127 {b = 1} {k = 128} refl refl ∙ ap (λ l. l ++ filter_range p 1 127) first
     ∙ filter_cut p 1 most_rounds n {b = most_rounds + 1} {k = 127} refl refl ∙ ap (λ l. rounds p ++ l) last ∙ append-nil (rounds p)
 
 module _ (r : ℕ) (ls : List Lift) where
-  -- the bits that are set in the two words of a round are its donors
-  pub set_donors : AllWellFormed 0 ls → set_bits (bits 64 (λ t. sends (0 + t) r ls)) (bits 64 (λ t. sends (64 + t) r ls)) ≡ donors r ls
+  -- the bits that are set for a new round are its donors
+  pub set_donors : AllWellFormed 0 ls → set_bits (donor_bits r ls) ≡ donors r ls
   set_donors d =
-      ap₂ ◌++◌ (set_bits_lem (λ t. sends t r ls) 0 64 (λ t. refl)) (set_bits_lem (λ t. sends t r ls) 64 64 (λ t. refl))
-      ∙ two_words (λ t. sends t r ls) (sends_none 0 r (from_nowhere r) 0 ls d) (λ t h. sends_none t r (from_beyond t r h) 0 ls d)
+      set_bits_lem (λ t. sends t r ls) 0 128 (λ t. ap (λ k. sends k r ls) (sym (zero-add t)))
+      ∙ all_rounds (λ t. sends t r ls) (sends_none 0 r (from_nowhere r) 0 ls d) (λ t h. sends_none t r (from_beyond t r h) 0 ls d)
 
   -- the first two donors rise
   pub rising_two : {d e : ℕ} {ds : List ℕ} → donors r ls ≡ d ∷ e ∷ ds → d < e

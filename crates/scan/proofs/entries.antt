@@ -1,3 +1,2 @@
 -- What the proofs of `entry_at` and `marks` share.
-mod Words
 mod Steps

@@ -42,10 +42,7 @@ pub fn marks(sheet: &[u32], i: usize) -> usize
     requires { i + 3 < length sheet.now }
     ensures { result ≡ indicator (lift_of (drop i sheet.now)).held }
 {
-    if Sheet::kind(sheet[i + 3]) == Sheet::HELD {
-        return 1;
-    }
-    0
+    usize::from(Sheet::kind(sheet[i + 3]) == Sheet::HELD)
 }
 
 // How many lifts there are, by the end word.
@@ -54,6 +51,27 @@ pub fn size(sheet: &[u32]) -> usize
     ensures { result ≡ length (lifts sheet.now) }
 {
     Sheet::payload(sheet[sheet.len() - 1]) as usize
+}
+
+// The words behind those of a held lift: a rare way, kept out of the loop, so that the walk goes on before the word is read that says whether a lift is held.
+#[cold]
+#[inline(never)]
+fn behind_held<'a>(words: &'a [u32]) -> &'a [u32]
+    requires { 3 < length words.now }
+    ensures { result.now ≡ drop 4 words.now }
+{
+    &words[4..]
+}
+
+// The words behind those of the first lift.
+fn behind<'a>(words: &'a [u32], held: bool) -> &'a [u32]
+    requires { 3 < length words.now }
+    ensures { result.now ≡ drop (3 + indicator held) words.now }
+{
+    if held {
+        return behind_held(words);
+    }
+    &words[3..]
 }
 
 // A walk over the lifts of a legible sheet, seen as the list of those that are left.
@@ -90,7 +108,7 @@ impl<'a> Iterator for Walk<'a> {
             return None;
         }
         let lift = entry_at(words, 0);
-        self.words = &words[3 + usize::from(lift.held)..];
+        self.words = behind(words, lift.held);
         Some(lift)
     }
 }

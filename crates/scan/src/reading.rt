@@ -2,10 +2,11 @@
 ghost use Rattle.std.specs.Prelude.{◌≡◌, true, false, ◌≤◌, ◌<◌, length};
 ghost use Rattle.sheet.specs.Sheet.{largest_sum, longest, kind as kind_of, place_of};
 ghost use Rattle.sheet.specs.Reading.{next_state as next_of, misplaced as misplaced_of, fault, reading, of_words, reading_of};
+ghost use Rattle.scan.specs.Scan.{state_of};
 
-use crate::faults::{follows, judge, next};
+use crate::faults::{State, follows};
 use reply::Refusal;
-use sheet::{ScanState, Sheet};
+use sheet::Sheet;
 
 // Whether a word is of a kind and holds a place whose measure is counted: of a round from 1 to 100, or round 0 with measure 0.
 fn is_counted_place(kind: u32, word: u32) -> bool
@@ -25,8 +26,8 @@ fn is_counted_place(kind: u32, word: u32) -> bool
 }
 
 // Whether three words are the lift, the old place and the new place of a lift, and none of them meets a refusal.
-fn is_sound_lift(s: ScanState, lift: u32, old: u32, new: u32) -> bool
-    ensures { result ≡ true → (fault s lift ≡ 0) × (fault (next_of s lift) old ≡ 0) × (fault (next_of (next_of s lift) old) new ≡ 0) }
+fn is_sound_lift(s: State, lift: u32, old: u32, new: u32) -> bool
+    ensures { result ≡ true → (fault (state_of s) lift ≡ 0) × (fault (next_of (state_of s) lift) old ≡ 0) × (fault (next_of (next_of (state_of s) lift) old) new ≡ 0) }
 {
     if !follows(s.kind, Sheet::LIFT) {
         return false;
@@ -44,36 +45,30 @@ fn is_sound_lift(s: ScanState, lift: u32, old: u32, new: u32) -> bool
 }
 
 // The first faulty word of words that are not too many; three sound words of a lift are read in one turn.
+#[tactic(auto, using(crate::proofs::Readings::turns))]
 fn read_words(sheet: &[u32]) -> Result<(), Refusal>
     requires { length sheet.now ≤ longest }
     ensures { reading_of result ≡ reading sheet.now }
 {
-    let mut s = ScanState {
-        kind: 0,
-        number: 0,
-        old: 0,
-        lifts: 0,
-    };
-    let mut i = 0;
-    while i < sheet.len() {
-        let word = sheet[i];
-        if i + 2 < sheet.len() {
-            let old = sheet[i + 1];
-            let new = sheet[i + 2];
-            if is_sound_lift(s, word, old, new) {
-                s = next(next(next(s, word), old), new);
-                i += 3;
-                continue;
+    let mut s = State::default();
+    let mut rest = sheet;
+    while let [word, others @ ..] = rest {
+        rest = match others {
+            [old, new, behind @ ..] if is_sound_lift(s, *word, *old, *new) => {
+                s = s.next(*word).next(*old).next(*new);
+                behind
             }
-        }
-        judge(s, word, i)?;
-        s = next(s, word);
-        i += 1;
+            _ => {
+                s.judge(*word, sheet.len() - rest.len())?;
+                s = s.next(*word);
+                others
+            }
+        };
     }
     if s.kind == Sheet::END {
         return Ok(());
     }
-    Err(Refusal::Sequence(i))
+    Err(Refusal::Sequence(sheet.len()))
 }
 
 // The answer to words alone: one of the refusals 1 to 6 and 16, or sound.

@@ -12,12 +12,14 @@ use Rattle.probability.proofs.Lists.{all_get_d}
 use Rattle.draw.specs.Draw.{largest}
 use Rattle.draw.specs.Run.{finished, run}
 use Rattle.draw.proofs.Runs.{run_every}
-use Rattle.round.specs.Round.{lift_at as round_lift_at, Weight, old_weight, weights, weight_at, whole_sums, WellPosed}
-use Rattle.round.specs.Choice.{Selection, keyfitz}
+use Rattle.round.specs.Round.{lift_at as round_lift_at, old_weight, weights, weight_at, whole_sums, WellPosed}
+use Rattle.round.specs.Choice.{keyfitz}
+use Rattle.round.specs.declared.Selection.{Selection}
 use Rattle.round.specs.Law.{Weighty}
 use Rattle.round.specs.Rows.{lift_of_measures, IfHere}
 use Rattle.round.specs.declared.Donors.{Donors}
 use Rattle.round.specs.declared.Lift.{Lift as RoundLift}
+use Rattle.round.specs.declared.Weight.{Weight}
 use Rattle.round.proofs.Laws.{donor_weight, lawful}
 use Rattle.sheet.specs.Sheet.{most_rounds, Lift}
 use Rattle.tally.specs.Law.{Fit}

@@ -10,7 +10,7 @@ use Rattle.probability.specs.Plan.{Path, paths}
 use Rattle.draw.specs.Draw.{largest}
 use Rattle.draw.specs.Run.{finished, run}
 use Rattle.draw.proofs.Runs.{follows}
-use Rattle.round.specs.Choice.{Selection}
+use Rattle.round.specs.declared.Selection.{Selection}
 use Rattle.sheet.specs.Sheet.{Lift, lifts}
 use Rattle.tally.specs.Rounds.{in_use}
 use Rattle.reply.specs.Reply.{replied}

@@ -7,7 +7,7 @@ use lib.ListN.{length}
 use Rattle.draw.specs.Draw.{largest}
 use Rattle.draw.specs.Run.{Run, finished, short as ended, run}
 use Rattle.draw.proofs.Positions.{run_between}
-use Rattle.round.specs.Choice.{Selection}
+use Rattle.round.specs.declared.Selection.{Selection}
 use Rattle.sheet.specs.Sheet.{Lift}
 use Rattle.selection.specs.Choice.{Way, Choice, Panel, chosen, short, preceded, choice_of, and_then, panel_from}
 

@@ -5,7 +5,8 @@ use Rattle.probability.specs.Plan.{Plan}
 use Rattle.draw.specs.Draw.{largest}
 use Rattle.draw.specs.Run.{Run, finished, short as ended, run}
 use Rattle.round.specs.Rows.{lift_of_measures}
-use Rattle.round.specs.Choice.{Selection, Update, keyfitz, plan_by, outcome}
+use Rattle.round.specs.Choice.{Update, keyfitz, plan_by, outcome}
+use Rattle.round.specs.declared.Selection.{Selection}
 use Rattle.probability.specs.Initial.{Initial}
 use Rattle.round.specs.declared.Donors.{Donors}
 use Rattle.round.specs.declared.Donors.TheVariants.{None as NoDonor, One, Two}

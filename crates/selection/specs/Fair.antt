@@ -5,7 +5,8 @@ use Rattle.std.proofs.Math.Seq.{slice}
 use Rattle.probability.specs.Fraction.{Fraction, ◌//◌, ◌≈◌}
 use Rattle.probability.specs.Plan.{Path, paths, weight}
 use Rattle.round.specs.Round.{U, D, weights}
-use Rattle.round.specs.Choice.{Selection, Update}
+use Rattle.round.specs.Choice.{Update}
+use Rattle.round.specs.declared.Selection.{Selection}
 use Rattle.round.specs.Share.{chooses, Exact, Staying}
 use Rattle.round.specs.Keep.{Best}
 use Rattle.sheet.specs.Sheet.{Lift, sheet_of}

@@ -10,8 +10,7 @@ use lib.ListN.{length}
 use borrow.Author.Tests.{eq-eqb, ne_eqb, lt-ltb, le-ltb, ltb-false}
 use Rattle.reply.specs.Reply.{numbered}
 use Rattle.sheet.specs.Sheet.{longest, end_kind}
-use Rattle.sheet.specs.Reading.{mislong, next_state, fault, Reading, faulty, sound, unless_fault, read_from, start_state, reading, of_words, Legible}
-use Rattle.sheet.specs.declared.ScanState.{ScanState}
+use Rattle.sheet.specs.Reading.{ScanState, mislong, next_state, fault, Reading, faulty, sound, unless_fault, read_from, start_state, reading, of_words, Legible}
 use Rattle.sheet.proofs.Trips.{not_ended}
 
 module _ (ws : List ℕ) where

@@ -10,9 +10,8 @@ use lib.ListN.{length, get_or}
 use lib.Dec.{eqb, ltb}
 use borrow.Author.Tests.{eqb-true, eqb-false, eq-eqb, ne_eqb, leb-false, lt-leb, ltb-false, le-ltb, not-false}
 use Rattle.sheet.specs.Sheet.{most_lifts, most_rounds, largest_sum, not_counted, kind, payload, lift_kind, old_kind, new_kind, held_kind, end_kind, Place, place_of, Lift, lifts, word, place_word, lift_words, words_then, sheet_of}
-use Rattle.sheet.specs.Reading.{start_state, next_state, may_follow, out_of_sequence, misnumbered, is_place, too_large, beyond, misplaced, uncounted_newcomer, miscounted, mismarked, fault, Reading, sound, unless_fault, read_from}
+use Rattle.sheet.specs.Reading.{ScanState, start_state, next_state, may_follow, out_of_sequence, misnumbered, is_place, too_large, beyond, misplaced, uncounted_newcomer, miscounted, mismarked, fault, Reading, sound, unless_fault, read_from}
 use Rattle.sheet.specs.Law.{PlaceWellFormed, LiftWellFormed, AllWellFormed, WellFormed, ReadBackTheorem, WrittenBackTheorem, WritablePlace, AllWritable, BackTheorem}
-use Rattle.sheet.specs.declared.ScanState.{ScanState}
 
 -- the state of the scan, from its parts
 abbrev state : ℕ → ℕ → ℕ → ℕ → ScanState

@@ -5,13 +5,19 @@ use Rattle.sheet.specs.Sheet.{most_lifts, most_rounds, largest_sum, longest, not
 use Rattle.reply.specs.Reply.{Numbered, numbered}
 use Rattle.reply.specs.Refusal.{refusal_of}
 use Rattle.reply.specs.declared.Refusal.{Refusal}
-use Rattle.sheet.specs.declared.ScanState.{ScanState}
 
 -- "1. Length 0 or above 12,389 words."
 abbrev pub mislong : List ℕ → Bool
 mislong ws = eqb (length ws) 0 || ltb longest (length ws)
 
 -- ---- the state of the scan
+
+-- the kind of the last word, 0 before the first; the number of the last lift, the word of its old place, and how many lifts there are
+pub record ScanState : Type 0 where
+  pub kind : ℕ
+  pub number : ℕ
+  pub old : ℕ
+  pub lifts : ℕ
 
 -- before the first word: no kind, no lift
 abbrev pub start_state : ScanState

@@ -3,9 +3,8 @@
 use Rattle.std.specs.Prelude.{ℕ, Bool, true, false, ◌&&◌, List, [], ◌∷◌, ◌++◌, eqb, replicate}
 use Rattle.reply.specs.Reply.{numbered}
 use Rattle.sheet.specs.Sheet.{Lift, sheet_of}
-use Rattle.sheet.specs.Reading.{fault, Reading, faulty, sound, of_words}
+use Rattle.sheet.specs.Reading.{ScanState, fault, Reading, faulty, sound, of_words}
 use Rattle.sheet.specs.Lift.{place_at, Old, New}
-use Rattle.sheet.specs.declared.ScanState.{ScanState}
 
 abbrev same_reading : Reading → Reading → Bool
 same_reading (faulty x) (faulty y) = eqb x.number y.number && eqb x.place y.place

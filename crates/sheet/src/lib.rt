@@ -5,7 +5,7 @@ ghost use Rattle.std.specs.Prelude.{◌≡◌, ◌+◌, ◌*◌, ◌^◌, ◌<�
 ghost use Rattle.sheet.specs.Sheet.{kind as kind_of, payload as payload_of, place_of, word as word_of};
 
 // A sheet that fits: how many lifts and how many new rounds it has.
-#[derive(Clone, Copy)]
+#[derive(Clone, Copy, Debug, PartialEq, Eq)]
 pub struct Sheet {
     pub lifts: usize,
     pub rounds: usize,
@@ -93,18 +93,8 @@ impl Sheet {
     }
 }
 
-// The state of the scan: the kind of the last word, 0 before the first, the number of the last lift, the word of its old place, and
-// how many lifts there are.
-#[derive(Clone, Copy)]
-pub struct ScanState {
-    pub kind: u32,
-    pub number: u32,
-    pub old: u32,
-    pub lifts: usize,
-}
-
 // A lift read from its words: its number, old round and measure, new round and the new measure that counts, and whether it is held.
-#[derive(Clone, Copy)]
+#[derive(Clone, Copy, Debug, PartialEq, Eq)]
 pub struct Entry {
     pub number: u32,
     pub from: usize,

@@ -3,6 +3,7 @@ pub mod Bits
 pub mod Ranges
 pub mod Filling
 pub mod Sending
+pub mod Adding
 pub mod Numbers
 pub mod Verdicts
 pub mod Worked

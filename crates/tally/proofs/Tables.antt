@@ -19,20 +19,36 @@ use Rattle.sheet.proofs.Walks.{Between, between_none, behind, turn, last}
 
 -- ---- tables
 
-pub get_or_tabulate : (n : ℕ) (f : ℕ → ℕ) (k : ℕ) → k < n → get_or (tabulate n f) k 0 ≡ f k
+pub tabulate_at : {A : Type 0} (d : A) (n : ℕ) (f : ℕ → A) (k : ℕ) → k < n → get_or (tabulate n f) k d ≡ f k
 unfolding tabulate
-get_or_tabulate zero f k h = absurd (omega arith)
-get_or_tabulate (suc n) f zero h = refl
-get_or_tabulate (suc n) f (suc k) h = get_or_tabulate n (λ i. f (suc i)) k (omega arith)
+tabulate_at d zero f k h = absurd (omega arith)
+tabulate_at d (suc n) f zero h = refl
+tabulate_at d (suc n) f (suc k) h = tabulate_at d n (λ i. f (suc i)) k (omega arith)
 
-pub length_tabulate : (n : ℕ) (f : ℕ → ℕ) → length (tabulate n f) ≡ n
+pub get_or_tabulate : (n : ℕ) (f : ℕ → ℕ) (k : ℕ) → k < n → get_or (tabulate n f) k 0 ≡ f k
+get_or_tabulate = tabulate_at 0
+
+pub length_tabulate : {A : Type 0} (n : ℕ) (f : ℕ → A) → length (tabulate n f) ≡ n
 unfolding tabulate
 length_tabulate zero f = refl
 length_tabulate (suc n) f = ap suc (length_tabulate n (λ i. f (suc i)))
 
 -- a list is a table by its elements
+pub tabulated_at : {A : Type 0} (d : A) {n : ℕ} {l : List A} (f : ℕ → A) → length l ≡ n → ((k : ℕ) → k < n → get_or l k d ≡ f k) → l ≡ tabulate n f
+tabulated_at d {n} {l} f e h = ext_get_or d l (tabulate n f) (e ∙ sym (length_tabulate n f)) (λ i p. h i (rw e at p) ∙ sym (tabulate_at d n f i (rw e at p)))
+
 pub tabulated : {n : ℕ} {l : List ℕ} (f : ℕ → ℕ) → length l ≡ n → ((k : ℕ) → k < n → get_or l k 0 ≡ f k) → l ≡ tabulate n f
-tabulated {n} {l} f e h = ext_get_or 0 l (tabulate n f) (e ∙ sym (length_tabulate n f)) (λ i p. h i (rw e at p) ∙ sym (get_or_tabulate n f i (rw e at p)))
+tabulated f e h = tabulated_at 0 f e h
+
+-- a table with another entry is the table of a rule that differs there alone
+pub set_tabulate : {A : Type 0} {n k : ℕ} {v : A} (f g : ℕ → A) → k < n → v ≡ g k → ((r : ℕ) → (r ≡ k → ⊥) → f r ≡ g r) → set (tabulate n f) k v ≡ tabulate n g
+set_tabulate {A} {n} {k} {v} f g l e h =
+    tabulated_at v g (simp (length-set, length_tabulate)) (λ r p. go r p (eqb k r) refl)
+  where
+    go : (r : ℕ) → r < n → (b : Bool) → eqb k r ≡ b → get_or (set (tabulate n f) k v) r v ≡ g r
+    go r p true b = rw (← eqb-true k r b) (get_or-set_same (tabulate n f) k v v (omega (arith, length_tabulate n f)) ∙ e)
+    go r p false b =
+        get_or-set_other (tabulate n f) k r v v (λ x. eqb-false k r b (sym x)) ∙ tabulate_at v n f r p ∙ h r (λ x. eqb-false k r b (sym x))
 
 get_or_zeros : (n r : ℕ) → get_or {A = ℕ} (replicate n 0) r 0 ≡ 0
 get_or_zeros zero r = refl
@@ -125,7 +141,7 @@ cond_le false v = omega arith
 
 module _ (key value : Lift → ℕ) (small : (ws : List ℕ) → value (lift_of ws) < 2 ^ 21) where
   -- no sum of such values is above 2^21 for each word
-  tally_le : (r : ℕ) (ws : List ℕ) → total_by key value r (lifts ws) ≤ length ws * 2 ^ 21
+  pub tally_le : (r : ℕ) (ws : List ℕ) → total_by key value r (lifts ws) ≤ length ws * 2 ^ 21
   unfolding total_by lifts
   tally_le r [] = omega arith
   tally_le r (w ∷ ws) = go (eqb (kind w) lift_kind) (tally_le r ws)

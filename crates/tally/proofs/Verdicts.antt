@@ -1,58 +1,77 @@
 -- The answer to a sheet: the tests of the code on tables are the document's on lifts, and one law for each way out.
-use Prim.Native.Nat.{ℕ, ◌+◌, ◌*◌, ◌≤◌}
+use Prim.Native.Nat.{ℕ, zero, suc, ◌+◌, ◌≤◌}
 use mathlib.Core.Path.{◌≡◌, refl, sym, ap, ap₂, subst, ◌∙◌}
-use mathlib.Core.Bool.{Bool}
+use mathlib.Core.Bool.{Bool, true, false, cond, ◌&&◌}
 use mathlib.Core.List.{List, [], ◌∷◌, map}
 use Rattle.std.specs.Prelude.{Option, Some, None, Ok}
 use native.Mathlib.Omega.{arith}
-use lib.Dec.{ltb}
+use lib.Dec.{leb, ltb}
 use lib.Count.{ones}
-use lib.ListN.{length, get_or}
+use lib.ListN.{length, get_or, drop}
+use Rattle.std.specs.Prelude.{count_by}
+use Rattle.std.proofs.lemmas.List.Sums.{sum_by-cons}
+use Rattle.probability.proofs.Sums.{over_ext}
+use Rattle.probability.specs.Sum.{over, indicator, count}
 use Rattle.sheet.specs.Sheet.{most_rounds, longest, Lift, lifts, sheet_of}
 use Rattle.reply.specs.Reply.{Numbered, numbered}
 use Rattle.sheet.specs.Reading.{Reading, faulty, sound, of_words, Legible}
-use Rattle.tally.specs.Rounds.{rounds, lift_count, in_use, donors}
-use Rattle.tally.specs.Verdict.{Verdict, refused, fits, breaks, not_one_held, oversize, zero_sum, too_many_donors, first_round, first_refusal, crowded, nothing_more, of_rounds, unless_faulty, verdict_by, verdict, verdict_of}
+use Rattle.tally.specs.Rounds.{rounds, lift_count, in_use}
+use Rattle.tally.specs.Verdict.{Verdict, refused, fits, not_one_held, oversize, zero_sum, too_many_donors, first_round, first_refusal, crowded, nothing_more, of_rounds, unless_faulty, verdict_by, verdict, verdict_of}
 use Rattle.reply.specs.Refusal.{refusal_of}
-use Rattle.tally.specs.Tables.{table, donor_bits, donor_counts, found_first}
+use Rattle.tally.specs.Tables.{tabulate, table, old_round, new_round, Tabled, found_first}
 use Rattle.tally.specs.Law.{Nowhere, FitBy, Fit, FittingBy, DecidedTheorem, FitsWithTables}
 use Rattle.sheet.specs.Lift.{Old, New}
-use Rattle.tally.specs.declared.Rule.{Rule}
-use Rattle.tally.specs.declared.Rule.TheVariants.{FewDonors}
+use Rattle.tally.specs.declared.OldRound.{OldRound}
+use Rattle.tally.specs.declared.NewRound.{NewRound}
+use Rattle.tally.specs.declared.Tallies.{Tallies}
+use Rattle.tally.proofs.Adding.{old_none, new_none}
 use Rattle.reply.specs.declared.Refusal.{Refusal}
 use Rattle.reply.specs.declared.Refusal.TheVariants.{TooManyDonors}
 use Rattle.tally.specs.declared.Examined.{Examined}
-use Rattle.tally.proofs.Tables.{get_or_tabulate, length_tabulate, tabulated}
-use Rattle.tally.proofs.Sending.{low_word, high_word, donors_count}
+use Rattle.tally.proofs.Tables.{tabulate_at}
+use Rattle.tally.proofs.Sending.{donors_count}
 use Rattle.tally.proofs.Numbers.{Above, above}
 use Rattle.sheet.proofs.Trips.{read_theorem, written_theorem}
 use Rattle.sheet.proofs.Legibility.{legible_words, words_legible}
-use Rattle.tally.proofs.Ranges.{filter_ext, filter_none, none_filtered}
+use Rattle.tally.proofs.Ranges.{filter_ext, filter_count, filter_none, none_filtered}
 
 -- ---- the tests on tables
 
--- the rounds that pass a test on two tables' numbers
-tested : (test : ℕ → ℕ → Bool) (f g : ℕ → ℕ) {a b : List ℕ} → a ≡ table f → b ≡ table g
-    → rounds (λ t. test (get_or a t 0) (get_or b t 0)) ≡ rounds (λ t. test (f t) (g t))
-tested test f g ea eb =
-    filter_ext 1 most_rounds
-    (λ t l h. ap₂ test (ap (λ x. get_or x t 0) ea ∙ get_or_tabulate (most_rounds + 1) f t h) (ap (λ x. get_or x t 0) eb ∙ get_or_tabulate (most_rounds + 1) g t h))
+-- the rounds whose entries pass a test
+pub tested : {A : Type 0} (test : A → Bool) (f : ℕ → A) (d : A) {a : List A} → a ≡ table f → rounds (λ r. test (get_or a r d)) ≡ rounds (λ r. test (f r))
+tested test f d e = filter_ext 1 most_rounds (λ r l h. ap test (ap (λ x. get_or x r d) e ∙ tabulate_at d (most_rounds + 1) f r h))
 
--- what the code's search finds is the first round that breaks a rule
-pub found : (rule : Rule) (f g : ℕ → ℕ) {a b : List ℕ} {x : Option ℕ} → a ≡ table f → b ≡ table g → x ≡ found_first (rounds (λ t. breaks rule (get_or a t 0) (get_or b t 0)))
-    → x ≡ found_first (rounds (λ t. breaks rule (f t) (g t)))
-found rule f g ea eb e = e ∙ ap found_first (tested (breaks rule) f g ea eb)
+-- a search of the tables finds the first round that the lifts make pass
+pub old_tested : {ls : List Lift} {t : Tallies} (test : OldRound → Bool) → Tabled ls t → found_first (rounds (λ r. test (get_or t.old r old_none))) ≡ found_first (rounds (λ r. test (old_round ls r)))
+old_tested {ls} test d = ap found_first (tested test (old_round ls) old_none d.old)
 
-pub in_use_lem : (ls : List Lift) {a : List ℕ} {n : ℕ} → a ≡ table (λ r. lift_count New r ls) → n ≡ length (rounds (λ t. ltb 0 (get_or a t 0))) → n ≡ length (in_use New ls)
-in_use_lem ls ea e = e ∙ ap length (tested (λ x y. ltb 0 x) _ _ ea ea)
+pub new_tested : {ls : List Lift} {t : Tallies} (test : NewRound → Bool) → Tabled ls t → found_first (rounds (λ r. test (get_or t.new r new_none))) ≡ found_first (rounds (λ r. test (new_round ls r)))
+new_tested {ls} test d = ap found_first (tested test (new_round ls) new_none d.new)
 
--- how many donors each round has
-pub counted : {ws words counts : List ℕ} → Legible ws → words ≡ donor_bits (lifts ws) → counts ≡ donor_counts words → counts ≡ table (λ r. length (donors r (lifts ws)))
-counted {ws} {words} l ew ec =
-    tabulated _ (ap length ec ∙ length_tabulate (most_rounds + 1) _) (λ r h. ap (λ t. get_or t r 0) ec ∙ get_or_tabulate (most_rounds + 1) _ r h ∙ count r (omega arith))
+counted : {A : Type 0} (test : A → Bool) (n : ℕ) (f : ℕ → A) → count_by test (tabulate n f) ≡ count n (λ i. test (f i))
+unfolding tabulate over
+counted test zero f = refl
+counted test (suc n) f = sum_by-cons (λ x. cond (test x) 1 0) (f 0) (tabulate n (λ i. f (suc i))) ∙ ap₂ ◌+◌ (go (test (f 0))) (counted test n (λ i. f (suc i)))
   where
-    count : (r : ℕ) → r ≤ most_rounds → ones (get_or words (2 * r) 0) + ones (get_or words (2 * r + 1) 0) ≡ length (donors r (lifts ws))
-    count r h = rw (ew, low_word (lifts ws) r h, high_word (lifts ws) r h) (donors_count ws l r)
+    go : (b : Bool) → cond b 1 0 ≡ indicator b
+    go true = refl
+    go false = refl
+
+-- how many are in use
+pub in_use_lem : (ls : List Lift) {a : List NewRound} {n : ℕ} → a ≡ table (new_round ls) → n ≡ count_by (λ x. ltb 0 x.lifts) (drop 1 a) → n ≡ length (in_use New ls)
+unfolding tabulate
+in_use_lem ls ea e =
+    e ∙ ap (λ x. count_by (λ x. ltb 0 x.lifts) (drop 1 x)) ea ∙ counted (λ x. ltb 0 x.lifts) most_rounds (λ i. new_round ls (suc i))
+    ∙ over_ext ◌+◌ 0 most_rounds (λ i _. let q : suc i ≡ 1 + i = omega arith in ap (λ r. indicator (ltb 0 (lift_count New r ls))) q)
+    ∙ sym (filter_count (λ r. ltb 0 (lift_count New r ls)) 1 most_rounds)
+
+-- a new round that is in use, with three bits or more
+abbrev pub many : NewRound → Bool
+many n = ltb 0 n.lifts && leb 3 (ones n.donors)
+
+-- the rounds whose bits are three or more are those with too many donors
+crowded_rounds : (ws : List ℕ) → Legible ws → rounds (λ r. many (new_round (lifts ws) r)) ≡ rounds (too_many_donors (lifts ws))
+crowded_rounds ws l = filter_ext 1 most_rounds (λ r _ _. ap (λ n. ltb 0 (lift_count New r (lifts ws)) && leb 3 n) (donors_count ws l r))
 
 -- ---- the ways out
 
@@ -215,12 +234,11 @@ module _ {ws : List ℕ} {e : Examined} (a : FitsWithTables ws e) where
   behind_answer : behind (crowded (lifts ws)) (verdict_of (Ok e.sheet)) ≡ verdict ws
   behind_answer = ap (behind (crowded (lifts ws))) a.verdict ∙ behind_nine crowded ws
 
-  module _ {counts : List ℕ} {f : Option ℕ} (c : counts ≡ donor_counts e.tallies.donors)
-      (d : f ≡ found_first (rounds (λ t. breaks FewDonors (get_or e.tallies.new_lifts t 0) (get_or counts t 0)))) where
+  module _ {f : Option ℕ} (q : f ≡ found_first (rounds (λ r. many (get_or e.tallies.new r new_none)))) where
     found_crowded : f ≡ found_first (rounds (too_many_donors (lifts ws)))
     found_crowded =
         let x = ((decided nothing_more ws).only _ _ (sym a.verdict)).0 in
-        found FewDonors _ _ a.tables.new_lifts (counted x.legible a.tables.donors c) d
+        q ∙ new_tested many a.tables ∙ ap found_first (crowded_rounds ws x.legible)
 
     pub at_too_many_donors : {r : ℕ} → f ≡ Some r → refused (numbered 10 r) ≡ verdict ws
     at_too_many_donors g = met 10 _ _ (sym g ∙ found_crowded) ∙ ten (rounds (too_many_donors (lifts ws))) _ ∙ behind_answer

@@ -9,8 +9,6 @@ use Rattle.reply.specs.declared.Refusal.TheVariants.{TooManyDonors}
 use Rattle.sheet.specs.Reading.{Reading, faulty, sound, of_words}
 use Rattle.tally.specs.Rounds.{rounds, lift_count, in_use, sum_of, held_count, donors}
 use Rattle.sheet.specs.Lift.{Side, Old, New}
-use Rattle.tally.specs.declared.Rule.{Rule}
-use Rattle.tally.specs.declared.Rule.TheVariants.{OneHeld, SmallSum, SomeMeasure, FewDonors}
 use Rattle.sheet.specs.declared.Sheet.{Sheet}
 
 -- the verdict on a sheet: a refusal by number and place, or that it fits, with how many lifts and new rounds it has
@@ -20,28 +18,21 @@ pub data Verdict : Type 0 where
 
 -- ---- the refusals of rounds (those of words: Reading.antt of `sheet`)
 
--- whether a round breaks a rule, from how many lifts name it and the number that the rule is about: held lifts, sum or donors
-abbrev pub breaks : Rule → ℕ → ℕ → Bool
-breaks OneHeld lifts held = ltb 0 lifts && not (eqb held 1)
-breaks SmallSum lifts sum = ltb largest_sum sum
-breaks SomeMeasure lifts sum = ltb 0 lifts && eqb sum 0
-breaks FewDonors lifts donors = ltb 0 lifts && leb 3 donors
-
 -- "7. An old round from 1 up, named by any lift, without exactly one held lift."
 abbrev pub not_one_held : List Lift → ℕ → Bool
-not_one_held ls r = breaks OneHeld (lift_count Old r ls) (held_count r ls)
+not_one_held ls r = ltb 0 (lift_count Old r ls) && not (eqb (held_count r ls) 1)
 
 -- "8. A sum above 1,048,576"
 abbrev pub oversize : Side → List Lift → ℕ → Bool
-oversize side ls r = breaks SmallSum (lift_count side r ls) (sum_of side r ls)
+oversize side ls r = ltb largest_sum (sum_of side r ls)
 
 -- "9. A new round whose sum is 0."
 abbrev pub zero_sum : List Lift → ℕ → Bool
-zero_sum ls r = breaks SomeMeasure (lift_count New r ls) (sum_of New r ls)
+zero_sum ls r = ltb 0 (lift_count New r ls) && eqb (sum_of New r ls) 0
 
 -- "10. A new round with three donors or more; the different old rounds that send it measure are counted."
 abbrev pub too_many_donors : List Lift → ℕ → Bool
-too_many_donors ls r = breaks FewDonors (lift_count New r ls) (length (donors r ls))
+too_many_donors ls r = ltb 0 (lift_count New r ls) && leb 3 (length (donors r ls))
 
 -- ---- their order
 

@@ -3,25 +3,43 @@
 
 use sheet::Sheet;
 
-// What a round must have: exactly one held lift, a sum that is not too large, some measure, at most two donors.
+// An old round: how many lifts it has, how many of them are held, and its sum.
 #[derive(Clone, Copy)]
-pub enum Rule {
-    OneHeld,
-    SmallSum,
-    SomeMeasure,
-    FewDonors,
+pub struct OldRound {
+    pub lifts: u64,
+    pub held: u64,
+    pub sum: u64,
 }
 
-// Tables by round. For each old round: how many lifts it has, how many of them are held, and its sum. For each new round: how many
-// lifts it has, its sum, and two words with a bit for each old round that is a donor.
+// A new round: how many lifts it has, its sum, and a bit for each old round that is set if it is a donor.
+#[derive(Clone, Copy)]
+pub struct NewRound {
+    pub lifts: u64,
+    pub sum: u64,
+    pub donors: u128,
+}
+
+// Tables by round.
 #[derive(Clone, Copy)]
 pub struct Tallies {
-    pub old_lifts: [u64; Sheet::TABLE],
-    pub held: [u64; Sheet::TABLE],
-    pub old_sums: [u64; Sheet::TABLE],
-    pub new_lifts: [u64; Sheet::TABLE],
-    pub new_sums: [u64; Sheet::TABLE],
-    pub donors: [u64; 2 * Sheet::TABLE],
+    pub old: [OldRound; Sheet::TABLE],
+    pub new: [NewRound; Sheet::TABLE],
+}
+
+impl Tallies {
+    // Of no lifts.
+    pub const EMPTY: Tallies = Tallies {
+        old: [OldRound {
+            lifts: 0,
+            held: 0,
+            sum: 0,
+        }; Sheet::TABLE],
+        new: [NewRound {
+            lifts: 0,
+            sum: 0,
+            donors: 0,
+        }; Sheet::TABLE],
+    };
 }
 
 // A sheet to which none of the refusals up to 9 applies, and its tables.

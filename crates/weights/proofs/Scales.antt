@@ -1,24 +1,22 @@
 -- The code's multipliers give the weights of the round, or let each lift grow by its whole new measure; and all of it has room.
 use Prim.Native.Nat.{ℕ, ◌+◌, ◌*◌, ◌^◌, ◌≤◌, ◌<◌}
-use mathlib.Core.Path.{◌≡◌, refl, ap, ap₂, fun_ext, ◌∙◌}
+use mathlib.Core.Path.{◌≡◌, refl, ap, fun_ext, ◌∙◌}
 use mathlib.Core.Bool.{Bool, true, false, cond}
 use mathlib.Core.List.{List, [], ◌∷◌, map, map-map}
-use native.Mathlib.Nat.{mul-le-mul}
 use native.Mathlib.Omega.{arith}
 use lib.ListN.{length}
-use mir.Val.{Fits}
-use mir.Syntax.{w64}
 use lib.Dec.{eqb}
 use borrow.Author.Tests.{eqb-true}
 use Rattle.probability.specs.Sum.{total}
 use Rattle.probability.proofs.Sums.{total_map, total_mul}
-use Rattle.round.specs.Round.{S, U, measure_from, D, old_weight, new_weight, Weight, weights, growth, G, whole_sums, WellPosed}
+use Rattle.round.specs.Round.{S, U, measure_from, D, old_weight, new_weight, weights, growth, G, whole_sums, WellPosed}
 use Rattle.round.specs.Choice.{draw_place, fresh, first_odds}
-use Rattle.round.specs.Rows.{capacity, Bounded, SumsBounded}
+use Rattle.round.specs.Rows.{Bounded}
 use Rattle.weights.specs.Scaling.{HasSums, ProductsFit, scaled, scale_of, wholly, WeightsFit, Balanced}
 use Rattle.round.specs.declared.Donors.{Donors}
 use Rattle.round.specs.declared.Donors.TheVariants.{None, One, Two}
 use Rattle.round.specs.declared.Lift.{Lift}
+use Rattle.round.specs.declared.Weight.{Weight}
 use Rattle.weights.specs.declared.Scale.{Scale}
 use Rattle.weights.specs.declared.Sums.{Sums}
 use Rattle.round.proofs.WeightSums.{old_sum, new_sum, came, weight_bound}
@@ -82,26 +80,6 @@ whole_positive {ls = ls} f = rw (whole_G ls) f.positive
 
 -- ---- the sums of the code
 
--- with two donors each sum and each product has room
-module _ {ds : Donors} {T₁ T₂ : ℕ} (t : Sums) (e : ds ≡ Two T₁ T₂) (m : ProductsFit ds t) where
-  small : SumsBounded (T₁ ∷ T₂ ∷ []) × ((t.new ≤ capacity) × (t.first ≤ capacity) × (t.second ≤ capacity))
-  small = rw e at m
-
-  pub first_part : Fits w64 (t.first * T₂)
-  first_part = omega (arith, mul-le-mul small.1.1 small.0.1.0)
-
-  pub second_part : Fits w64 (t.second * T₁)
-  second_part = omega (arith, mul-le-mul small.1.2 small.0.0)
-
-  pub both_parts : Fits w64 (t.first * T₂ + t.second * T₁)
-  both_parts = omega (arith, mul-le-mul small.1.1 small.0.1.0, mul-le-mul small.1.2 small.0.0)
-
-  pub first_times : Fits w64 (T₁ * t.new)
-  first_times = omega (arith, mul-le-mul small.0.0 small.1.0)
-
-  pub second_times : Fits w64 (T₂ * t.new)
-  second_times = omega (arith, mul-le-mul small.0.1.0 small.1.0)
-
 pub multipliable : (ds : Donors) {ls : List Lift} (t : Sums) → HasSums ds ls t → WellPosed ds ls → Bounded ds ls → ProductsFit ds t
 multipliable None t e f b = tt
 multipliable (One T) t e f b = tt
@@ -110,19 +88,22 @@ multipliable (Two T₁ T₂) {ls} t e f b =
     (b.old, (omega (arith, e.new, b.new), omega (arith, e.first (omega arith), u 0 (omega arith)), omega (arith, e.second (omega arith), u 1 (omega arith))))
 
 -- the multipliers from the sums of a round, by the document's cases
-scales : {d x y u v o : ℕ} → x ≡ u → y ≡ v → ◌≡◌ {A = Scale} (record { new = d; first = x; second = y; odds = o }) (record { new = d; first = u; second = v; odds = o })
-scales {d} {o = o} = ap₂ (λ a b. record { new = d; first = a; second = b; odds = o })
+pub scales : {n x y o m u v p : ℕ} → n ≡ m → x ≡ u → y ≡ v → o ≡ p → ◌≡◌ {A = Scale} (record { new = n; first = x; second = y; odds = o }) (record { new = m; first = u; second = v; odds = p })
+scales e f g h = cc
 
-unfoldable pub multipliers : (ds : Donors) (t : Sums) → Scale
-multipliers None t = record { new = 0; first = 0; second = 0; odds = 0 }
-multipliers (One T) t = record { new = t.first; first = t.new; second = 0; odds = 0 }
-multipliers (Two T₁ T₂) t = record { new = t.first * T₂ + t.second * T₁; first = T₂ * t.new; second = T₁ * t.new; odds = t.second * T₁ }
+module _ {ls : List Lift} (t : Sums) where
+  pub scale_one : {T y o : ℕ} → HasSums (One T) ls t → y ≡ 0 → o ≡ 0 → record { new = t.first; first = t.new; second = y; odds = o } ≡ scale_of (One T) ls
+  unfolding D old_weight first_odds
+  scale_one u g h = rw (u.new, u.first (omega arith)) (scales refl (omega arith) (omega arith) h)
 
-pub multiplied_by : (ds : Donors) (t : Sums) (ls : List Lift) → HasSums ds ls t → multipliers ds t ≡ scale_of ds ls
-unfolding multipliers D old_weight first_odds
-multiplied_by None t ls u = refl
-multiplied_by (One T) t ls u = rw (u.new, u.first (omega arith)) (scales (omega arith) (omega arith))
-multiplied_by (Two T₁ T₂) t ls u = rw (u.new, u.first (omega arith), u.second (omega arith)) (scales (omega arith) (omega arith))
+  pub scale_two : {T₁ T₂ : ℕ} → HasSums (Two T₁ T₂) ls t
+      → record { new = t.first * T₂ + t.second * T₁; first = T₂ * t.new; second = T₁ * t.new; odds = t.second * T₁ } ≡ scale_of (Two T₁ T₂) ls
+  unfolding D old_weight first_odds
+  scale_two u = rw (u.new, u.first (omega arith), u.second (omega arith)) (scales refl (omega arith) (omega arith) refl)
+
+pub scale_none : {n x y o : ℕ} (ls : List Lift) → n ≡ 0 → x ≡ 0 → y ≡ 0 → o ≡ 0 → record { new = n; first = x; second = y; odds = o } ≡ scale_of None ls
+unfolding D old_weight first_odds
+scale_none ls = scales
 
 -- what came from a donor has room
 pub came_room : {ds : Donors} {ls : List Lift} → WellPosed ds ls → Bounded ds ls → (i : ℕ) → i < length (whole_sums ds) → U (1 + i) ls ≤ 2 ^ 61

@@ -1,12 +1,13 @@
 -- The weights of a round as the code computes them: measures times multipliers.
 use Rattle.std.specs.Prelude.{ℕ, ◌*◌, ◌^◌, ◌≤◌, ◌≡◌, cond, List, [], ◌∷◌, map, length, eqb}
 use Rattle.probability.specs.Sum.{total}
-use Rattle.round.specs.Round.{S, U, D, old_weight, Weight, whole_sums}
+use Rattle.round.specs.Round.{S, U, D, old_weight, whole_sums}
 use Rattle.round.specs.Choice.{first_odds}
 use Rattle.round.specs.Rows.{lift_of_measures, row_lifts, capacity, SumsBounded}
 use Rattle.round.specs.declared.Donors.{Donors}
 use Rattle.round.specs.declared.Donors.TheVariants.{None, One, Two}
 use Rattle.round.specs.declared.Lift.{Lift}
+use Rattle.round.specs.declared.Weight.{Weight}
 use Rattle.weights.specs.declared.Scale.{Scale}
 use Rattle.weights.specs.declared.Sums.{Sums}
 

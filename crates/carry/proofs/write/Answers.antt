@@ -1,74 +1,54 @@
-use Prim.Native.Nat.{◌+◌, ◌≤◌, ◌<◌}
-use mathlib.Core.Path.{refl, ◌∙◌}
-use lib.ListN.{length, drop, length-set}
-use Rattle.sheet.specs.Sheet.{most_lifts, lift_of}
-use Rattle.sheet.proofs.Walks.{Turn, turn, inside, moved}
-use Rattle.carry.specs.Next.{in_table, words_on}
-use Rattle.carry.proofs.Writing.{writing_none, same_long, words_fit, writing_turn, end_fits, writing_end, remaining_fit}
+use Prim.Native.Nat.{◌+◌}
+use mathlib.Core.Path.{◌≡◌, sym, ap, ◌∙◌}
 use native.Mathlib.Omega.{arith}
-use borrow.Author.Rules.{rules}
+use lib.ListN.{length}
+use Rattle.sheet.specs.Sheet.{lift_words}
+use Rattle.sheet.proofs.Trips.{read_theorem}
+use Rattle.carry.specs.Next.{carried, in_table}
+use Rattle.carry.proofs.Writing.{remaining_fit, taken, taken_length, number_small, writing_none, writing_first, words_fit, writing_turn, writing_past, end_fits, writing_end}
 use Rattle.carry.proofs.write.Goals as goal
-use Rattle.carry.proofs.write.Goals.{After-loop-i, After-marks, In-loop-i}
+use Rattle.carry.proofs.write.Goals.{After-from-len}
 
--- the lift at the loop's position
-lift : (c : In-loop-i) → Turn c.args.sheet.now c.loop-i.i
-lift c = turn c.loop-i.invariant.between c.loop-i-test.true
+-- the lift has a new round
+some : (c : After-from-len) → c.in-Some.ensures.steps.lift.new.round ≡ 0 → ⊥
+some c e = c.if-l-ne0.true (ap (λ x. x.to) c.in-Some.ensures.steps.read ∙ e)
 
--- its words have room
-next_fits : (c : In-loop-i)
-    → c.loop-i.at + length (words_on (in_table c.args.chosen.now) (lift_of (drop c.loop-i.i c.args.sheet.now))) ≤ length c.loop-i.next
-next_fits c = words_fit (in_table c.args.chosen.now) c.loop-i.invariant c.requires.sheet_in_bounds c.loop-i-test.true
+-- how many words it has
+many : (c : After-from-len) → length (lift_words (carried (in_table c.args.chosen.now) c.in-Some.ensures.steps.lift)) ≡ 3 + c.from-len.result
+many c = taken_length c.args.chosen.now c.in-Some.ensures.steps.lift c.in-Some.ensures.steps.read c.is_chosen.ensures c.from-len.ensures
 
--- the next position
-further : (c : After-marks) → c.loop-i.i + (3 + c.marks.result) ≤ length c.args.sheet.now
-further c = moved (turn c.loop-i.invariant.between c.loop-i-test.true) c.marks.ensures
+pub loop-l-init : goal.loop-l-init
+loop-l-init c = rw (c.into_iter-l-iterator.ensures.into_iter_gives, c.lifts-l-items.ensures) (writing_none (in_table c.args.chosen.now) (read_theorem _ c.requires.legible.read).well_formed)
 
--- how many lifts remain
-few : (c : After-loop-i) → c.args.lifts ≤ most_lifts
-few c = rw c.requires.lifts_value (remaining_fit c.requires.legible)
+pub next_words-words-requires-clause-number_bound : goal.next_words-words-requires-clause-number_bound
+next_words-words-requires-clause-number_bound c = number_small (in_table c.args.chosen.now) (writing_first (in_table c.args.chosen.now) c.loop-l.invariant c.in-Some.ensures.steps) c.in-Some.ensures.steps.read
 
--- the end word has room
-end_room : (c : After-loop-i) → c.loop-i.at < length c.args.next.now
-end_room c = end_fits (in_table c.args.chosen.now) c.loop-i.invariant c.requires.sheet_in_bounds c.loop-i-test.false
+pub slice_bounds-copy_from_slice-end : goal.slice_bounds-copy_from_slice-end
+slice_bounds-copy_from_slice-end c =
+    let d = writing_first (in_table c.args.chosen.now) c.loop-l.invariant c.in-Some.ensures.steps in
+    let n = many c in
+    rw n at (words_fit (in_table c.args.chosen.now) d (some c) c.requires.sheet_in_bounds)
 
-pub loop-i-init : goal.loop-i-init
-loop-i-init c = writing_none (in_table c.args.chosen.now) c.requires.legible
+pub loop-l-preserved-then-l-ne0 : goal.loop-l-preserved-then-l-ne0
+loop-l-preserved-then-l-ne0 c =
+    let a = (goal.at.loop-l-preserved-then-l-ne0 c).After-from-len in
+    let d = writing_first (in_table c.args.chosen.now) c.loop-l.invariant c.in-Some.ensures.steps in
+    writing_turn (in_table c.args.chosen.now) d (some a)
+    (c.copy_from_slice.ensures.after ∙ taken c.args.chosen.now c.in-Some.ensures.steps.lift c.in-Some.ensures.steps.read c.is_chosen.ensures c.from-len.ensures c.next_words-words.ensures) (many a) (omega arith)
 
-pub overflow_add-i : goal.overflow_add-i
-overflow_add-i c = omega (arith, inside c.loop-i.invariant.between, c.requires.legible.short)
-
-pub write_lift-at-requires : goal.write_lift-at-requires
-write_lift-at-requires c = let l = lift (goal.at.write_lift-at-requires c).In-loop-i in record { i_in_bounds = l.room; mark_sound = l.marked; sheet_bound = l.new.round; sheet_in_bounds = next_fits (goal.at.write_lift-at-requires c).In-loop-i }
-
-pub marks-requires : goal.marks-requires
-marks-requires c = (lift (goal.at.marks-requires c).In-loop-i).room
-
-pub overflow_add-i-in-loop-i : goal.overflow_add-i-in-loop-i
-overflow_add-i-in-loop-i c = omega (arith, further (goal.at.overflow_add-i-in-loop-i c).After-marks, c.requires.legible.short)
-
-pub overflow_add-i-in-loop-i-2 : goal.overflow_add-i-in-loop-i-2
-overflow_add-i-in-loop-i-2 c = omega (arith, further (goal.at.overflow_add-i-in-loop-i-2 c).After-marks, c.requires.legible.short)
-
-pub loop-i-smaller : goal.loop-i-smaller
-loop-i-smaller c = omega (arith, further (goal.at.loop-i-smaller c).After-marks)
-
-pub loop-i-preserved : goal.loop-i-preserved
-loop-i-preserved c = writing_turn (in_table c.args.chosen.now) c.loop-i.invariant c.requires.sheet_in_bounds c.loop-i-test.true c.marks.ensures c.write_lift-at.ensures.behind c.write_lift-at.ensures.written
+pub loop-l-preserved : goal.loop-l-preserved
+loop-l-preserved c =
+    writing_past (in_table c.args.chosen.now) (writing_first (in_table c.args.chosen.now) c.loop-l.invariant c.in-Some.ensures.steps)
+    (sym (ap (λ x. x.to) c.in-Some.ensures.steps.read) ∙ c.if-l-ne0.false)
 
 pub overflow_cast-lifts : goal.overflow_cast-lifts
-overflow_cast-lifts c = omega (arith, few (goal.at.overflow_cast-lifts c).After-loop-i)
+overflow_cast-lifts c = record { fits = omega (arith, c.requires.lifts_value, remaining_fit c.requires.legible) }
 
-pub word-requires : goal.word-requires
-word-requires c = record { kind_bound = search rules; payload_bound = omega (arith, few (goal.at.word-requires c).After-loop-i) }
-
-pub offset_bounds-next-at : goal.offset_bounds-next-at
-offset_bounds-next-at c = omega (arith, end_room (goal.at.offset_bounds-next-at c).After-loop-i)
+pub word-requires-clause-payload_bound : goal.word-requires-clause-payload_bound
+word-requires-clause-payload_bound c = omega (arith, c.requires.lifts_value, remaining_fit c.requires.legible)
 
 pub bounds-next-at : goal.bounds-next-at
-bounds-next-at c = omega (arith, end_room (goal.at.bounds-next-at c).After-loop-i, same_long (in_table c.args.chosen.now) c.loop-i.invariant c.requires.sheet_in_bounds)
-
-pub shape_of-next : goal.shape_of-next
-shape_of-next c = length-set c.loop-i.next c.loop-i.at c.word.result ∙ same_long (in_table c.args.chosen.now) c.loop-i.invariant c.requires.sheet_in_bounds
+bounds-next-at c = end_fits (in_table c.args.chosen.now) (rw c.in-None.ensures.steps.0 at c.loop-l.invariant) c.requires.sheet_in_bounds
 
 pub returns : goal.returns
-returns c = writing_end (in_table c.args.chosen.now) c.loop-i.invariant c.requires.sheet_in_bounds c.loop-i-test.false c.requires.lifts_value c.word.ensures refl
+returns c = rw c.word.ensures (writing_end (in_table c.args.chosen.now) (rw c.in-None.ensures.steps.0 at c.loop-l.invariant) c.requires.sheet_in_bounds c.requires.lifts_value)

@@ -1,6 +1,6 @@
--- `print` is handed the text of the bytes that were lent: what `report` ensures.
+-- `print` is handed the text of the bytes that were kept: what `report` ensures.
 use Rattle.choose.proofs.Prints.{printed}
 use Rattle.choose.proofs.print_report.Goals as goal
 
 pub print-requires : goal.print-requires
-print-requires g c = printed _ _ _ _ c.requires.sheet_len c.requires.words_len c.report-n.ensures.is
+print-requires g c = printed c.args.sheet.now c.args.words.now c.kept.ensures.room c.kept-2.ensures.room (rw (c.kept.ensures.is, c.kept-2.ensures.is) at c.report-n.ensures.is)

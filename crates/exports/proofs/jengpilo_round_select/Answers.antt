@@ -9,11 +9,11 @@ use Rattle.exports.proofs.jengpilo_round_select.Goals.{After-held_from-here}
 callable : (c : After-held_from-here) → Callable c.donors_from-from.result (row_lifts c.args.rows.now) c.held_from-here.result
 callable c = by_enums c.donors_from-from.ensures c.held_from-here.ensures c.requires
 
-pub sums_of-sums-requires : goal.sums_of-sums-requires
-sums_of-sums-requires c = let k = callable (goal.at.sums_of-sums-requires c).After-held_from-here in (k.fitting, k.bounded)
+pub of-sums-requires : goal.of-sums-requires
+of-sums-requires c = let k = callable (goal.at.of-sums-requires c).After-held_from-here in (k.fitting, k.bounded)
 
 pub select-requires : goal.select-requires
-select-requires c = record { callable = callable (goal.at.select-requires c).After-held_from-here; has_sums = c.sums_of-sums.ensures }
+select-requires c = record { callable = callable (goal.at.select-requires c).After-held_from-here; has_sums = c.of-sums.ensures }
 
 pub returns-in-At : goal.returns-in-At
 returns-in-At c = let h = c.held_from-here.ensures in

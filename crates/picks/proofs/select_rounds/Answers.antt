@@ -1,77 +1,83 @@
+-- `picks::select_rounds` meets its contract: one law for each step of a round. Assumes nothing.
 use native.Mathlib.Omega.{arith}
-use mathlib.Core.Path.{ap}
+use mathlib.Core.Path.{refl, ap, ◌∙◌}
 use Rattle.tally.proofs.Verdicts.{fit}
-use Rattle.picks.specs.Choosing.{update_of}
-use Rattle.picks.proofs.Rounds.{rises, few, part_end, sums_are, callable}
-use Rattle.picks.proofs.Choosing.{going_none, going_end, on_passed, on_chosen, on_short}
+use Rattle.picks.proofs.Rounds.{rises, few, part_end, filled, empty, named, sums_are, callable}
+use Rattle.picks.proofs.Choosing.{going_none, going_end, idle, on_none, on_some, stopped}
 use Rattle.picks.proofs.select_rounds.Goals as goal
-
-pub lay_out-x-requires : goal.lay_out-x-requires
-lay_out-x-requires c = record { fitting = c.requires.fitting.0; tabled = c.requires.fitting.1; rows_len = c.requires.rows_len }
+use Rattle.picks.proofs.select_rounds.Goals.{then-not-is_empty+in-Some, else-not-is_empty}
 
 pub loop-r-init : goal.loop-r-init
-loop-r-init c =
+loop-r-init g c =
     let p = c.requires.fitting in
-    (record { fit = fit p.0; long = omega (arith, c.rows-1.given, c.requires.rows_len); laid = c.lay_out-x.ensures; old_sums = p.1.old_sums; new_sums = p.1.new_sums }, going_none _ _ _ _)
+    record { lent = record { fit = fit p.0; long = omega (arith, c.lay_out-layout.auto.rows, c.requires.rows_len); laid = c.lay_out-layout.ensures; tabled = p.1 }; going = going_none _ _ _ _; list = refl }
 
-pub overflow_mul-begin : goal.overflow_mul-begin
-overflow_mul-begin c = omega (arith, rises c.loop-r.invariant.0 c.loop-r.invariant.1.low c.loop-r-test.true, few c.loop-r.invariant.0 c.loop-r.invariant.1.low c.loop-r-test.true)
+pub overflow_mul-part : goal.overflow_mul-part
+overflow_mul-part g c = let d = c.loop-r.invariant.lent in omega (arith, rises d c.loop-r.auto.r (omega (arith, c.loop-r-test.true)), few d c.loop-r.auto.r (omega (arith, c.loop-r-test.true)))
 
-pub overflow_mul-end : goal.overflow_mul-end
-overflow_mul-end c = omega (arith, rises c.loop-r.invariant.0 c.loop-r.invariant.1.low c.loop-r-test.true, few c.loop-r.invariant.0 c.loop-r.invariant.1.low c.loop-r-test.true)
+pub overflow_mul-part-in-loop-r : goal.overflow_mul-part-in-loop-r
+overflow_mul-part-in-loop-r g c = let d = c.loop-r.invariant.lent in omega (arith, few d c.loop-r.auto.r (omega (arith, c.loop-r-test.true)))
 
-pub offset_bounds-rows-begin : goal.offset_bounds-rows-begin
-offset_bounds-rows-begin c = omega (arith, rises c.loop-r.invariant.0 c.loop-r.invariant.1.low c.loop-r-test.true, few c.loop-r.invariant.0 c.loop-r.invariant.1.low c.loop-r-test.true)
+pub offset_bounds-rows-round : goal.offset_bounds-rows-round
+offset_bounds-rows-round g c = let d = c.loop-r.invariant.lent in omega (arith, rises d c.loop-r.auto.r (omega (arith, c.loop-r-test.true)), few d c.loop-r.auto.r (omega (arith, c.loop-r-test.true)))
 
-pub slice_bounds-choose_lift-count : goal.slice_bounds-choose_lift-count
-slice_bounds-choose_lift-count c = omega (arith, rises c.loop-r.invariant.0 c.loop-r.invariant.1.low c.loop-r-test.true, few c.loop-r.invariant.0 c.loop-r.invariant.1.low c.loop-r-test.true)
+pub slice_bounds-part-count : goal.slice_bounds-part-count
+slice_bounds-part-count g c = let d = c.loop-r.invariant.lent in omega (arith, rises d c.loop-r.auto.r (omega (arith, c.loop-r-test.true)))
 
-pub slice_bounds-choose_lift-start : goal.slice_bounds-choose_lift-start
-slice_bounds-choose_lift-start c = omega (arith, rises c.loop-r.invariant.0 c.loop-r.invariant.1.low c.loop-r-test.true, few c.loop-r.invariant.0 c.loop-r.invariant.1.low c.loop-r-test.true)
+pub slice_bounds-part-start : goal.slice_bounds-part-start
+slice_bounds-part-start g c = let d = c.loop-r.invariant.lent in omega (arith, rises d c.loop-r.auto.r (omega (arith, c.loop-r-test.true)))
 
-pub slice_bounds-choose_lift-end : goal.slice_bounds-choose_lift-end
-slice_bounds-choose_lift-end c = omega (arith, part_end c.loop-r.invariant.0 c.loop-r.invariant.1.low c.loop-r-test.true)
+pub slice_bounds-part-end : goal.slice_bounds-part-end
+slice_bounds-part-end g c = let d = c.loop-r.invariant.lent in omega (arith, part_end d c.loop-r.auto.r (omega (arith, c.loop-r-test.true)))
 
-pub choose_lift-requires : goal.choose_lift-requires
-choose_lift-requires c = let d = c.loop-r.invariant.0 in
-    let l = c.loop-r.invariant.1.low in
-    record { callable = callable d l c.loop-r-test.true c.donors_in-donors.ensures c.held_in-held.ensures; has_sums = sums_are d l c.loop-r-test.true c.donors_in-donors.result c.sums_in-sums.ensures }
+pub donors_of-requires-clause-first_named : goal.donors_of-requires-clause-first_named
+donors_of-requires-clause-first_named g c = (named c.loop-r.invariant.lent c.loop-r.auto.r (omega (arith, c.loop-r-test.true))).0
 
-pub overflow_add-r : goal.overflow_add-r
-overflow_add-r c = omega (arith, c.loop-r-test.true)
+pub donors_of-requires-clause-second_named : goal.donors_of-requires-clause-second_named
+donors_of-requires-clause-second_named g c = (named c.loop-r.invariant.lent c.loop-r.auto.r (omega (arith, c.loop-r-test.true))).1
 
-pub loop-r-smaller-in-Passed : goal.loop-r-smaller-in-Passed
-loop-r-smaller-in-Passed c = omega (arith, c.loop-r-test.true)
+pub held_of-requires-clause-first_named : goal.held_of-requires-clause-first_named
+held_of-requires-clause-first_named g c = (named c.loop-r.invariant.lent c.loop-r.auto.r (omega (arith, c.loop-r-test.true))).0
 
-pub loop-r-preserved-in-Passed : goal.loop-r-preserved-in-Passed
-loop-r-preserved-in-Passed c = (c.loop-r.invariant.0, on_passed (update_of c.args.way) c.loop-r.invariant.0 c.loop-r.invariant.1 c.loop-r-test.true c.held_in-held.result c.donors_in-donors.ensures c.held_in-held.ensures c.choose_lift.ensures c.in-Passed.is)
+pub held_of-requires-clause-second_named : goal.held_of-requires-clause-second_named
+held_of-requires-clause-second_named g c = (named c.loop-r.invariant.lent c.loop-r.auto.r (omega (arith, c.loop-r-test.true))).1
 
-pub offset_bounds-numbers-r : goal.offset_bounds-numbers-r
-offset_bounds-numbers-r c = omega (arith, c.loop-r-test.true)
+pub choose_lift-requires-clause-callable : goal.choose_lift-requires-clause-callable
+choose_lift-requires-clause-callable g c =
+    callable c.loop-r.invariant.lent c.loop-r.auto.r (omega (arith, c.loop-r-test.true)) c.donors_of.ensures c.held_of.ensures (filled c.is_empty.ensures c.if-not-is_empty.true)
 
-pub bounds-numbers-r : goal.bounds-numbers-r
-bounds-numbers-r c = omega (arith, c.loop-r-test.true)
+pub choose_lift-requires-clause-has_sums : goal.choose_lift-requires-clause-has_sums
+choose_lift-requires-clause-has_sums g c = sums_are c.loop-r.invariant.lent c.loop-r.auto.r (omega (arith, c.loop-r-test.true)) c.donors_of.result c.sums_of.ensures
 
-pub offset_bounds-outcomes-r : goal.offset_bounds-outcomes-r
-offset_bounds-outcomes-r c = omega (arith, c.loop-r-test.true)
+pub returns-in_default-clause-picked : goal.returns-in_default-clause-picked
+returns-in_default-clause-picked g c = let l = c.loop-r.invariant in
+    (stopped (on_none _ l.lent l.going c.loop-r.auto.r (omega (arith, c.loop-r-test.true)) (filled c.is_empty.ensures c.if-not-is_empty.true) c.held_of.result c.donors_of.ensures c.held_of.ensures (ap (λ x. x.now) l.list) _ c.choose_lift.ensures.value c.in_default.is) 0).0
 
-pub bounds-outcomes-r : goal.bounds-outcomes-r
-bounds-outcomes-r c = omega (arith, c.loop-r-test.true)
-
-pub overflow_add-r-in-Chosen : goal.overflow_add-r-in-Chosen
-overflow_add-r-in-Chosen c = omega (arith, c.loop-r-test.true)
-
-pub loop-r-smaller : goal.loop-r-smaller
-loop-r-smaller c = omega (arith, c.loop-r-test.true)
+pub returns-in_default-clause-behind : goal.returns-in_default-clause-behind
+returns-in_default-clause-behind g c = let l = c.loop-r.invariant in
+    (stopped (on_none _ l.lent l.going c.loop-r.auto.r (omega (arith, c.loop-r-test.true)) (filled c.is_empty.ensures c.if-not-is_empty.true) c.held_of.result c.donors_of.ensures c.held_of.ensures (ap (λ x. x.now) l.list) _ c.choose_lift.ensures.value c.in_default.is) c.choose_lift.new.words.at).1
 
 pub loop-r-preserved : goal.loop-r-preserved
-loop-r-preserved c = (c.loop-r.invariant.0, on_chosen (update_of c.args.way) c.loop-r.invariant.0 c.loop-r.invariant.1 c.loop-r-test.true c.held_in-held.result c.donors_in-donors.ensures c.held_in-held.ensures c.choose_lift.ensures c.in-Chosen.is)
+loop-r-preserved g c =
+    let l = c.loop-r.invariant in
+    let low = c.loop-r.auto.r in
+    elim c.if-not-is_empty.branch [
+      | then-not-is_empty+in-Some w ↦
+          record {
+            lent = l.lent;
+            going = rw (w.words-is, w.picks-is) (on_some _ l.lent l.going low (omega (arith, c.loop-r-test.true)) (filled c.is_empty.ensures w.if-not-is_empty.true) w.held_of.result w.donors_of.ensures w.held_of.ensures (ap (λ x. x.now) l.list) _ w.choose_lift.ensures.value w.in-Some.is);
+            list = rw w.words-is (w.choose_lift.ensures.list ∙ l.list);
+          }
+      | else-not-is_empty w ↦
+          record {
+            lent = l.lent;
+            going = rw (w.words-is, w.picks-is) (idle _ l.lent l.going low (omega (arith, c.loop-r-test.true)) (empty c.is_empty.ensures w.if-not-is_empty.false));
+            list = rw w.words-is l.list;
+          }
+    ]
 
-pub shape_of-rows-in-Short : goal.shape_of-rows-in-Short
-shape_of-rows-in-Short c = search c.rows-1.given
+pub returns-clause-picked : goal.returns-clause-picked
+returns-clause-picked g c = (going_end c.loop-r.invariant.going (omega (arith, c.loop-r-test.false))).0
 
-pub returns-in-Short : goal.returns-in-Short
-returns-in-Short c = on_short (update_of c.args.way) c.loop-r.invariant.0 c.loop-r.invariant.1 c.loop-r-test.true c.held_in-held.result c.donors_in-donors.ensures c.held_in-held.ensures c.choose_lift.ensures c.in-Short.is _ (ap (λ p. p.short) c.picked.ensures)
-
-pub returns : goal.returns
-returns c = rw c.picked-2.ensures (going_end c.loop-r.invariant.1 c.loop-r-test.false)
+pub returns-clause-behind : goal.returns-clause-behind
+returns-clause-behind g c = (going_end c.loop-r.invariant.going (omega (arith, c.loop-r-test.false))).1

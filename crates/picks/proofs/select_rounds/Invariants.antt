@@ -1,14 +1,15 @@
--- `picks::select_rounds` meets its contract: the choices of the rounds before one, and the panel from it on, are the whole panel. Assumes nothing.
-use Prim.Native.Nat.{◌+◌, ◌-◌}
-use Rattle.sheet.specs.Sheet.{most_rounds, lifts}
-use Rattle.picks.specs.Choosing.{way_of}
+-- `picks::select_rounds`: the choices of the rounds before one, and the panel from it on, are the whole panel.
+use Rattle.std.proofs.Common.{◌≡◌}
+use Rattle.sheet.specs.Sheet.{lifts}
+use Rattle.selection.specs.Choice.{by_update}
 use Rattle.picks.proofs.Rounds.{Lent}
 use Rattle.picks.proofs.Choosing.{Going}
 use Rattle.picks.proofs.select_rounds.Given as goal
 
 abbrev pub invariant-loop-r : goal.invariant-loop-r
-invariant-loop-r l =
-    Lent (lifts l.sheet) l.rows l.x l.t.old_sums l.t.new_sums × Going (way_of l.way) (lifts l.sheet) l.words l.start l.numbers l.outcomes l.next l.r
-
-abbrev pub decreases-loop-r : goal.decreases-loop-r
-decreases-loop-r l = most_rounds + 1 - l.r
+invariant-loop-r g l =
+    record {
+      lent : Lent (lifts l.sheet) l.rows l.layout l.t;
+      going : Going (by_update g.W.Way.update) (lifts l.sheet) l.fn.words.words.now l.fn.words.at l.picks l.words.at l.r;
+      list : l.words.words ≡ l.fn.words.words;
+    }

@@ -2,8 +2,8 @@
 use Rattle.procedure.proofs.Answers.{drawn, drawn_short}
 use Rattle.procedure.proofs.draw_lift.Goals as goal
 
-pub returns-in-Value : goal.returns-in-Value
-returns-in-Value c = search drawn
+pub returns-in_err-q-clause-value : goal.returns-in_err-q-clause-value
+returns-in_err-q-clause-value c = rw c.from_residual.ensures (drawn_short _ _ _ _ _ c.growth_sum.ensures _ c.draw.ensures.value c.in_err-q.was)
 
-pub returns-in-Short : goal.returns-in-Short
-returns-in-Short c = search drawn_short
+pub returns-clause-value : goal.returns-clause-value
+returns-clause-value c = drawn _ _ _ _ _ c.growth_sum.ensures _ c.draw.ensures.value c.in_ok-q.was c.pick-place.ensures

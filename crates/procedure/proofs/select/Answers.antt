@@ -1,39 +1,54 @@
 -- `procedure::select` meets its contract: by the preliminary lift. Assumes nothing.
-use mathlib.Core.Path.{◌≡◌}
+use Prim.Native.Nat.{◌<◌}
+use lib.ListN.{length}
+use mathlib.Core.Path.{◌≡◌, ap, ◌∙◌}
+use Rattle.std.specs.Prelude.{Some}
 use Rattle.round.specs.Rows.{row_lifts}
-use Rattle.weights.specs.Scaling.{scale_of}
+use Rattle.weights.specs.Scaling.{scale_of, WeightsFit, Balanced}
 use Rattle.weights.proofs.Scales.{whole_room, whole_positive, multipliable}
 use Rattle.procedure.proofs.Answers.{on_none, on_place, on_short, on_place_fits, contested}
 use Rattle.procedure.proofs.select.Goals as goal
-use Rattle.procedure.proofs.select.Goals.{After-scaling-s}
+use Rattle.procedure.proofs.select.Goals.{After-scaling-scale, In-Some}
 
 -- the multipliers are those of the round
-scale : (c : After-scaling-s) → let a = c.args in c.scaling-s.result ≡ scale_of a.donors (row_lifts a.rows.now)
-scale c = c.scaling-s.ensures (row_lifts c.args.rows.now) c.requires.has_sums
+scale : (c : After-scaling-scale) → let a = c.args in c.scaling-scale.result ≡ scale_of a.donors (row_lifts a.rows.now)
+scale c = c.scaling-scale.ensures (row_lifts c.args.rows.now) c.requires.has_sums
 
-pub scaling-s-requires : goal.scaling-s-requires
-scaling-s-requires c = multipliable c.args.donors c.args.t c.requires.has_sums c.requires.callable.fitting c.requires.callable.bounded
+pub scaling-scale-requires : goal.scaling-scale-requires
+scaling-scale-requires c = multipliable c.args.donors c.args.sums c.requires.has_sums c.requires.callable.fitting c.requires.callable.bounded
 
 pub find_preliminary-requires : goal.find_preliminary-requires
-find_preliminary-requires c = contested _ (scale (goal.at.find_preliminary-requires c).After-scaling-s) c.requires.callable
+find_preliminary-requires c = contested _ (scale (goal.at.find_preliminary-requires c).After-scaling-scale) c.requires.callable
+
+pub invariant_of-whole : goal.invariant_of-whole
+invariant_of-whole c = record { fits = whole_room c.requires.callable.bounded }
 
 pub draw_lift-requires : goal.draw_lift-requires
-draw_lift-requires c = search (whole_room, whole_positive)
+draw_lift-requires c = whole_positive c.requires.callable.fitting
+
+-- the update can be made
+updates : (c : In-Some) → let a = c.args in let ls = row_lifts a.rows.now in WeightsFit c.scaling-scale.result ls × (Balanced c.scaling-scale.result ls × (c.in-Some.place < length ls))
+updates c =
+    let a = c.args in
+    on_place_fits a.donors (row_lifts a.rows.now) _ _ (scale (goal.at.invariant_of-round c).After-scaling-scale) a.held _ _ c.find_preliminary.ensures.value c.requires.callable (c.in_ok-find_preliminary.was ∙ ap Some c.in-Some.is)
+
+pub invariant_of-round : goal.invariant_of-round
+invariant_of-round c = record { fits = (updates c).0 }
 
 pub update-requires : goal.update-requires
-update-requires c =
-    let a = c.args in
-    let p = on_place_fits a.donors (row_lifts a.rows.now) a.words.now a.at (scale (goal.at.update-requires c).After-scaling-s) a.held c.find_preliminary.ensures c.requires.callable c.in-At.is in
-    record { weights_fit = p.0; balanced = p.1.0; i_in_bounds = p.1.1 }
+update-requires c = let u = updates (goal.at.update-requires c).In-Some in record { balanced = u.1.0; place_in_bounds = u.1.1 }
 
-pub returns-in-None : goal.returns-in-None
-returns-in-None c = let a = c.args in
-    on_none a.donors (row_lifts a.rows.now) a.words.now a.at (scale (goal.at.returns-in-None c).After-scaling-s) a.held c.find_preliminary.ensures c.in-None.is c.draw_lift.ensures
+pub returns-in_err-find_preliminary-clause-value : goal.returns-in_err-find_preliminary-clause-value
+returns-in_err-find_preliminary-clause-value c = let a = c.args in
+    rw c.from_residual.ensures
+    (on_short a.donors (row_lifts a.rows.now) _ _ (scale (goal.at.returns-in_err-find_preliminary-clause-value c).After-scaling-scale) a.held _ _ c.find_preliminary.ensures.value c.in_err-find_preliminary.was)
 
-pub returns-in-At : goal.returns-in-At
-returns-in-At c = let a = c.args in
-    on_place a.donors (row_lifts a.rows.now) a.words.now a.at (scale (goal.at.returns-in-At c).After-scaling-s) a.held c.find_preliminary.ensures c.in-At.is c.update.ensures
+pub returns-in-None-clause-value : goal.returns-in-None-clause-value
+returns-in-None-clause-value c = let a = c.args in
+    (rw c.find_preliminary.ensures.list at c.draw_lift.ensures.value)
+    ∙ on_none a.donors (row_lifts a.rows.now) _ _ (scale (goal.at.returns-in-None-clause-value c).After-scaling-scale) a.held _ _ c.find_preliminary.ensures.value (c.in_ok-find_preliminary.was ∙ ap Some c.in-None.is)
 
-pub returns-in-Short : goal.returns-in-Short
-returns-in-Short c = let a = c.args in
-    on_short a.donors (row_lifts a.rows.now) a.words.now a.at (scale (goal.at.returns-in-Short c).After-scaling-s) a.held c.find_preliminary.ensures c.in-Short.is
+pub returns-in-Some-clause-value : goal.returns-in-Some-clause-value
+returns-in-Some-clause-value c = let a = c.args in
+    (rw c.find_preliminary.ensures.list at c.update.ensures.value)
+    ∙ on_place a.donors (row_lifts a.rows.now) _ _ (scale (goal.at.returns-in-Some-clause-value c).After-scaling-scale) a.held _ _ c.find_preliminary.ensures.value (c.in_ok-find_preliminary.was ∙ ap Some c.in-Some.is)

@@ -1,11 +1,6 @@
--- `survey::survey` meets its contract: each table and what the lifts left would add are the whole. Assumes nothing.
-use Prim.Native.Nat.{◌-◌}
-use lib.ListN.{length}
-use Rattle.survey.proofs.Surveys.{Surveyed, tallies}
+-- `survey::survey` meets its contract: the tables are those of the lifts that are not left. Assumes nothing.
+use Rattle.survey.proofs.Surveys.{Surveyed}
 use Rattle.survey.proofs.survey.Given as goal
 
-abbrev pub invariant-loop-i : goal.invariant-loop-i
-invariant-loop-i l = Surveyed l.sheet (tallies l.old_lifts l.held l.old_sums l.new_lifts l.new_sums l.donors) l.i
-
-abbrev pub decreases-loop-i : goal.decreases-loop-i
-decreases-loop-i l = length l.sheet - l.i
+abbrev pub invariant-loop-l : goal.invariant-loop-l
+invariant-loop-l l = Surveyed l.sheet l.tables l.l-iterator

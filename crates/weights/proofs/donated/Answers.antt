@@ -5,7 +5,7 @@ use Rattle.std.proofs.Common.{rules}
 use Rattle.std.specs.List.{sum_by}
 use Rattle.round.specs.Round.{measure_from}
 use Rattle.round.specs.Rows.{row_lift}
-use Rattle.weights.proofs.Loops.{rows_U}
+use Rattle.weights.proofs.Rows.{rows_U}
 use Rattle.weights.proofs.donated.Goals as goal
 
 pub sum-requires-clause-fits : goal.sum-requires-clause-fits

@@ -1,5 +1,5 @@
 -- `weights::rows_of` meets its contract: the library's chunks are the definition's pieces. Assumes nothing.
-use Rattle.weights.proofs.Loops.{rows_chunked}
+use Rattle.weights.proofs.Rows.{rows_chunked}
 use Rattle.weights.proofs.rows_of.Goals as goal
 
 pub returns : goal.returns

@@ -1,11 +1,11 @@
--- `scan::read_words` meets its contract: what is left to read from word i on gives the answer, and there are no more lifts than words. Assumes nothing.
-use Prim.Native.Nat.{◌-◌}
+-- `scan::read_words` meets its contract: what is left to read gives the answer, and there are no more lifts than words. Assumes nothing.
 use lib.ListN.{length}
+use Rattle.scan.specs.Scan.{state_of}
 use Rattle.scan.proofs.Readings.{Kept}
 use Rattle.scan.proofs.reading.read_words.Given as goal
 
-abbrev pub invariant-loop-i : goal.invariant-loop-i
-invariant-loop-i l = Kept l.sheet l.s l.i
+abbrev pub invariant-loop-rest : goal.invariant-loop-rest
+invariant-loop-rest l = Kept l.sheet (state_of l.s) l.rest
 
-abbrev pub decreases-loop-i : goal.decreases-loop-i
-decreases-loop-i l = length l.sheet - l.i
+abbrev pub decreases-loop-rest : goal.decreases-loop-rest
+decreases-loop-rest l = length l.rest

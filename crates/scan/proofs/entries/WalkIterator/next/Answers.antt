@@ -2,7 +2,7 @@
 use native.Mathlib.Omega.{arith}
 use mathlib.Core.Path.{sym, ◌∙◌}
 use Rattle.sheet.proofs.Walks.{first, none_left}
-use Rattle.scan.proofs.entries.Steps.{in_words, next_left, gives_first, fewer}
+use Rattle.scan.proofs.entries.Steps.{next_left, gives_first, fewer}
 use Rattle.scan.proofs.entries.WalkIterator.next.Goals as goal
 
 pub returns-then-words-eq1-clause-steps : goal.returns-then-words-eq1-clause-steps
@@ -16,22 +16,19 @@ entry_at-lift-requires-clause-i_in_bounds c = (first c.self.invariant c.if-words
 pub entry_at-lift-requires-clause-mark_sound : goal.entry_at-lift-requires-clause-mark_sound
 entry_at-lift-requires-clause-mark_sound c = (first c.self.invariant c.if-words-eq1.false).marked
 
-pub slice_bounds-self-count : goal.slice_bounds-self-count
-slice_bounds-self-count c = in_words (first c.self.invariant c.if-words-eq1.false) c.entry_at-lift.ensures c.from.ensures
-
-pub slice_bounds-self-start : goal.slice_bounds-self-start
-slice_bounds-self-start c = in_words (first c.self.invariant c.if-words-eq1.false) c.entry_at-lift.ensures c.from.ensures
+pub behind-self-inside-requires : goal.behind-self-inside-requires
+behind-self-inside-requires c = (first c.self.invariant c.if-words-eq1.false).room
 
 pub invariant_of-self : goal.invariant_of-self
-invariant_of-self c = next_left (first c.self.invariant c.if-words-eq1.false) c.entry_at-lift.ensures c.from.ensures
+invariant_of-self c = next_left (first c.self.invariant c.if-words-eq1.false) c.entry_at-lift.ensures c.behind-self-inside.ensures
 
 pub returns-clause-steps : goal.returns-clause-steps
-returns-clause-steps c = gives_first (first c.self.invariant c.if-words-eq1.false) c.entry_at-lift.ensures c.from.ensures c.self.view_is
+returns-clause-steps c = gives_first (first c.self.invariant c.if-words-eq1.false) c.entry_at-lift.ensures c.behind-self-inside.ensures c.self.view_is
 
 pub returns-clause-goes : goal.returns-clause-goes
 returns-clause-goes c =
     record {
-      on = λ _. (tt, tt, fewer (first c.self.invariant c.if-words-eq1.false) c.entry_at-lift.ensures c.from.ensures c.self.view_is);
+      on = λ _. (tt, tt, fewer (first c.self.invariant c.if-words-eq1.false) c.entry_at-lift.ensures c.behind-self-inside.ensures c.self.view_is);
       keeps = tt;
       rests = λ _. tt;
     }

@@ -1,0 +1,5 @@
+-- Each call has a digit less to write.
+use Rattle.report.proofs.text.Text.+push_decimal.Given as goal
+
+abbrev pub decreases-push_decimal : goal.decreases-push_decimal
+decreases-push_decimal l = l.n

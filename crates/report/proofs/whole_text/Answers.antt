@@ -1,0 +1,13 @@
+-- `report::whole_text` meets its contract: by the three cases of the length.
+use mathlib.Core.Path.{sym, ◌∙◌}
+use Rattle.report.proofs.Reports.{report_odd, report_long, report_text}
+use Rattle.report.proofs.whole_text.Goals as goal
+
+pub returns-then-size-ne0 : goal.returns-then-size-ne0
+returns-then-size-ne0 c = c.refused.ensures ∙ sym (report_odd _ _ _ c.if-size-ne0.true)
+
+pub returns-then-size-gt-LONGEST : goal.returns-then-size-gt-LONGEST
+returns-then-size-gt-LONGEST c = c.refused-then-size-gt-LONGEST.ensures ∙ sym (report_long _ _ _ c.if-size-ne0.false c.if-size-gt-LONGEST.true)
+
+pub returns : goal.returns
+returns c = c.chosen_text.ensures ∙ sym (report_text _ _ _ c.min-kept.ensures c.if-size-ne0.false c.if-size-gt-LONGEST.false)

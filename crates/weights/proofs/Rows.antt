@@ -1,0 +1,93 @@
+-- The rows of a round and the sums over them, and the search for the place in whose interval a position falls.
+use Prim.Native.Nat.{ℕ, ◌+◌, ◌-◌, ◌/◌, ◌^◌, ◌≤◌, ◌<◌}
+use mathlib.Core.Path.{◌≡◌, refl, ap}
+use mathlib.Core.List.{List, [], ◌∷◌, map, map-map}
+use native.Mathlib.Numerals.{add-one}
+use native.Mathlib.Omega.{arith}
+use lib.ListN.{length, get_or, drop, drop_of_length-le, length-map, get_or-map}
+use lib.Seq.{drop-cons}
+use Rattle.std.specs.List.{sum_by, All}
+use Rattle.std.specs.Simd.{first_chunks}
+use Rattle.std.proofs.lemmas.List.Elements.{All-from_get_or}
+use Rattle.std.proofs.lemmas.List.Recursion.{is_sum_by}
+use Rattle.probability.specs.Sum.{total}
+use Rattle.probability.specs.Interval.{pick}
+use Rattle.probability.proofs.Sums.{total_map, map_le}
+use Rattle.probability.proofs.Pieces.{chunks_pieces}
+use Rattle.probability.proofs.Intervals.{pick_here, pick_beyond}
+use Rattle.round.specs.Round.{lift_at, U, measure_from, weight_at, growth, G}
+use Rattle.round.specs.Rows.{lift_of_measures, row_length, row_lift, row_lifts}
+use Rattle.weights.specs.Scaling.{scaled, WeightsFit, LiftWeightsFit, Balanced}
+use Rattle.round.specs.declared.Lift.{Lift}
+use Rattle.round.specs.declared.Weight.{Weight}
+use Rattle.weights.specs.declared.Scale.{Scale}
+use Rattle.round.proofs.WeightSums.{U_sum, dropped_G, G_le}
+
+-- ---- the rows
+
+-- the rows are the library's chunks
+pub rows_chunked : (rows : List ℕ) → map row_lift (first_chunks row_length (length rows / row_length) rows) ≡ row_lifts rows
+unfolding row_lifts
+rows_chunked rows = ap (map row_lift) (chunks_pieces row_length rows)
+
+-- ---- sums over the rows
+
+total_sum : {A : Type 0} (f : A → ℕ) (xs : List A) → total (map f xs) ≡ sum_by f xs
+unfolding total
+total_sum f = is_sum_by (λ xs. total (map f xs)) f refl (λ _ _. refl)
+
+pub rows_U : (k : ℕ) (rs : List (List ℕ)) {ls : List Lift} → map row_lift rs ≡ ls → U k ls ≡ sum_by (λ row. measure_from k (row_lift row)) rs
+rows_U k rs e = rw (← e, U_sum, total_map row_lift (measure_from k) rs) (total_sum (λ row. measure_from k (row_lift row)) rs)
+
+abbrev pub row_growth : Scale → List ℕ → ℕ
+row_growth s row = growth (scaled s (row_lift row))
+
+-- the growths of a round's lifts are those of its rows
+pub rows_growths : (s : Scale) (rs : List (List ℕ)) {ls : List Lift} → map row_lift rs ≡ ls → map growth (map (scaled s) ls) ≡ map (row_growth s) rs
+rows_growths s rs e = rw (← e, map-map growth (scaled s) (map row_lift rs), map-map (λ l. growth (scaled s l)) row_lift rs)
+
+pub rows_G : (s : Scale) (rs : List (List ℕ)) {ls : List Lift} → map row_lift rs ≡ ls → G (map (scaled s) ls) ≡ sum_by (row_growth s) rs
+unfolding G
+rows_G s rs e = rw (rows_growths s rs e) (total_sum (row_growth s) rs)
+
+-- ---- the search for the place in whose interval a position falls
+
+-- what is left of the position falls, from row i on, in the interval of the place sought
+pub record PickSought (f : List ℕ → ℕ) (rs : List (List ℕ)) (place left i : ℕ) : Type 0 where
+  pub same : i + pick (map f (drop i rs)) left ≡ place
+
+module _ (f : List ℕ → ℕ) (rs : List (List ℕ)) {i w : ℕ} (h : i < length rs) (e : w ≡ f (get_or rs i [])) where
+  left_cons : map f (drop i rs) ≡ w ∷ map f (drop (i + 1) rs)
+  left_cons = rw (drop-cons rs i [] h, e, add-one)
+
+  pub seek_turn : {place left : ℕ} → w ≤ left → PickSought f rs place left i → PickSought f rs place (left - w) (i + 1)
+  seek_turn k d = record { same = omega (arith, rw (left_cons, pick_beyond _ _ _ k) at d.same) }
+
+  pub seek_here : {place left : ℕ} → left < w → PickSought f rs place left i → i ≡ place
+  seek_here k d = omega (arith, rw (left_cons, pick_here _ _ _ k) at d.same)
+
+pub seek_end : {f : List ℕ → ℕ} {rs : List (List ℕ)} {i place left : ℕ} → length rs ≤ i → i ≤ length rs → PickSought f rs place left i → length rs ≡ place
+unfolding pick
+seek_end {rs} {i} h k d = omega (arith, rw (drop_of_length-le rs {i = i} h) at d.same)
+
+-- ---- room
+
+-- where the weights of all have room, so have those of each
+pub lift_room : {s : Scale} {ls : List Lift} {i : ℕ} → WeightsFit s ls → i < length ls → LiftWeightsFit s (lift_at ls i)
+lift_room {s} {ls} {i} r h = record {
+  old = omega (arith, map_le (λ l. (scaled s l).old) (lift_of_measures 0 0 0) ls i h, r.olds);
+  new = omega (arith, map_le (λ l. (scaled s l).new) (lift_of_measures 0 0 0) ls i h, r.news);
+}
+
+-- and so have those of each row
+pub rows_room : {s : Scale} (rs : List (List ℕ)) {ls : List Lift} → map row_lift rs ≡ ls → WeightsFit s ls → All (λ row. LiftWeightsFit s (row_lift row)) rs
+rows_room {s} rs e r = All-from_get_or (λ row. LiftWeightsFit s (row_lift row)) rs [] (λ i h. rw (← get_or-map row_lift rs i [], e) (lift_room r (rw (← e, length-map) h)))
+
+pub G_room : {s : Scale} {ls : List Lift} → WeightsFit s ls → G (map (scaled s) ls) ≤ 2 ^ 61
+G_room {s} {ls} r = omega (arith, G_le (map (scaled s) ls), total_map (scaled s) (λ w. w.new) ls, r.news)
+
+-- where the lift at i may be dropped, another grows
+pub moves_G : {s : Scale} {ls : List Lift} {i : ℕ} {w : Weight} → Balanced s ls → i < length ls → w ≡ weight_at (map (scaled s) ls) i → w.new < w.old
+    → 1 ≤ G (map (scaled s) ls)
+moves_G {s} {ls} {i} b h e l =
+    dropped_G (map (scaled s) ls) i (rw (total_map (scaled s) (λ w. w.old) ls, total_map (scaled s) (λ w. w.new) ls) b.sums) (rw length-map h) (rw e at l)
