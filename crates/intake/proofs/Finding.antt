@@ -1,19 +1,16 @@
--- A lift's slot among slots whose numbers rise.
+-- Binary search among rising numbers.
 use Prim.Native.Nat.{ℕ, zero, suc, ◌+◌, ◌*◌, ◌-◌, ◌/◌, ◌^◌, ◌≤◌, ◌<◌}
-use mathlib.Core.Path.{◌≡◌, refl, sym, ◌∙◌}
+use mathlib.Core.Path.{◌≡◌, refl}
 use mathlib.Core.Bool.{Bool, true, false, or-true}
 use mathlib.Core.List.{List, [], ◌∷◌}
 use native.Mathlib.Omega.{arith}
 use lib.Dec.{eqb, leb, ltb}
-use lib.ListN.{length, get_or, length-map}
+use lib.ListN.{length, get_or}
 use borrow.Author.Tests.{eqb-true, eqb-false, eq-eqb, ne_eqb, leb-true, leb-false, ltb-true, ltb-false}
-use Rattle.std.specs.Prelude.{None}
-use Rattle.std.proofs.Math.ListN.{get_or-map}
 use Rattle.probability.specs.Among.{among}
 use Rattle.probability.specs.Sum.{indicator}
 use Rattle.sheet.specs.Sheet.{most_lifts}
-use Rattle.intake.specs.Positions.{RisingAbove, slot_numbers}
-use Rattle.intake.specs.declared.lines.Slot.{Slot}
+use Rattle.intake.specs.Positions.{RisingAbove}
 
 -- each number is above the bound, and above those before it
 pub rising_above : (b : ℕ) (ns : List ℕ) → RisingAbove b ns → (j : ℕ) → j < length ns → b < get_or ns j 0
@@ -43,53 +40,40 @@ present n [] k l e = absurd (omega arith)
 present n (m ∷ ms) zero l e = rw (eq-eqb m n e)
 present n (m ∷ ms) (suc k) l e = rw (present n ms k (omega arith) e) (or-true (eqb m n))
 
--- ---- the slots
+-- ---- the halves
 
-abbrev pub no_slot : Slot
-no_slot = record { number = 0; measure = None }
-
-pub number_at : (ss : List Slot) (k : ℕ) → get_or (slot_numbers ss) k 0 ≡ (get_or ss k no_slot).number
-number_at ss k = get_or-map (λ s. s.number) ss k no_slot
-
-module _ (ss : List Slot) (n : ℕ) (up : RisingAbove 0 (slot_numbers ss)) where
-  rise_lt : (i j : ℕ) → i < j → j < length ss → (get_or ss i no_slot).number < (get_or ss j no_slot).number
-  rise_lt i j h l = rw (← number_at ss i, ← number_at ss j) (rising_lt 0 (slot_numbers ss) up i j h (omega (arith, length-map ss (λ s. s.number))))
-
+module _ (ns : List ℕ) (up : RisingAbove 0 ns) where
   -- no number falls
-  rises : (i j : ℕ) → i ≤ j → j < length ss → (get_or ss i no_slot).number ≤ (get_or ss j no_slot).number
+  rises : (i j : ℕ) → i ≤ j → j < length ns → get_or ns i 0 ≤ get_or ns j 0
   rises i j h l = go (eqb i j) refl
     where
-      go : (t : Bool) → eqb i j ≡ t → (get_or ss i no_slot).number ≤ (get_or ss j no_slot).number
+      go : (t : Bool) → eqb i j ≡ t → get_or ns i 0 ≤ get_or ns j 0
       go true e = rw (eqb-true i j e) (omega arith)
-      go false e = let o = eqb-false i j e in let z = rise_lt i j (omega arith) l in omega arith
-
-  -- none has the number if each is below or above it
-  pub absent_lem : ((j : ℕ) → j < length ss → (get_or ss j no_slot).number ≡ n → ⊥) → among n (slot_numbers ss) ≡ false
-  absent_lem h = absent n (slot_numbers ss) (λ j l e. h j (omega (arith, l, length-map ss (λ s. s.number))) (sym (number_at ss j) ∙ e))
+      go false e = let o = eqb-false i j e in let z = rising_lt 0 ns up i j (omega arith) l in omega arith
 
 -- the number stands, if anywhere, from low up and below low + size
-pub record Narrowed (ss : List Slot) (n low size : ℕ) : Type 0 where
+pub record Narrowed (ns : List ℕ) (n low size : ℕ) : Type 0 where
   pub inside : low + size ≤ most_lifts
-  pub below : (j : ℕ) → j < low → (get_or ss j no_slot).number < n
-  pub above : (j : ℕ) → low + size ≤ j → j < length ss → n < (get_or ss j no_slot).number
+  pub below : (j : ℕ) → j < low → get_or ns j 0 < n
+  pub above : (j : ℕ) → low + size ≤ j → j < length ns → n < get_or ns j 0
 
-pub narrowed_none : (ss : List Slot) (n : ℕ) → length ss ≤ most_lifts → Narrowed ss n 0 4096
-narrowed_none ss n few = record { inside = omega arith; below = λ j h. absurd (omega arith); above = λ j h k. absurd (omega arith) }
+pub narrowed_none : (ns : List ℕ) (n : ℕ) → length ns ≤ most_lifts → Narrowed ns n 0 4096
+narrowed_none ns n few = record { inside = omega arith; below = λ j h. absurd (omega arith); above = λ j h k. absurd (omega arith) }
 
-module _ {ss : List Slot} {n : ℕ} (up : RisingAbove 0 (slot_numbers ss)) {low size : ℕ} (d : Narrowed ss n low size) where
-  -- where the middle is beyond the slots
-  pub narrowed_past : 1 < size → length ss ≤ low + size / 2 → Narrowed ss n low (size - size / 2)
+module _ {ns : List ℕ} {n : ℕ} (up : RisingAbove 0 ns) {low size : ℕ} (d : Narrowed ns n low size) where
+  -- where the middle is beyond the numbers
+  pub narrowed_past : 1 < size → length ns ≤ low + size / 2 → Narrowed ns n low (size - size / 2)
   narrowed_past more h = record { inside = omega (arith, d.inside); below = d.below; above = λ j k m. absurd (omega arith) }
 
-  pub narrowed_turn : 1 < size → low + size / 2 < length ss → {t : ℕ} → t ≡ indicator (leb (get_or ss (low + size / 2) no_slot).number n) → Narrowed ss n (low + size / 2 * t) (size - size / 2)
-  narrowed_turn more room {t} f = rw f (go (leb (get_or ss (low + size / 2) no_slot).number n) refl)
+  pub narrowed_turn : 1 < size → low + size / 2 < length ns → {t : ℕ} → t ≡ indicator (leb (get_or ns (low + size / 2) 0) n) → Narrowed ns n (low + size / 2 * t) (size - size / 2)
+  narrowed_turn more room {t} f = rw f (go (leb (get_or ns (low + size / 2) 0) n) refl)
     where
-      go : (u : Bool) → leb (get_or ss (low + size / 2) no_slot).number n ≡ u → Narrowed ss n (low + size / 2 * indicator u) (size - size / 2)
+      go : (u : Bool) → leb (get_or ns (low + size / 2) 0) n ≡ u → Narrowed ns n (low + size / 2 * indicator u) (size - size / 2)
       go true q =
           let l = leb-true _ _ q in
           record {
             inside = omega (arith, d.inside);
-            below = λ j h. let z = rise_lt ss n up j (low + size / 2) (omega arith) room in omega arith;
+            below = λ j h. let z = rising_lt 0 ns up j (low + size / 2) (omega arith) room in omega arith;
             above = λ j h k. d.above j (omega arith) k;
           }
       go false q =
@@ -97,13 +81,13 @@ module _ {ss : List Slot} {n : ℕ} (up : RisingAbove 0 (slot_numbers ss)) {low 
           record {
             inside = omega (arith, d.inside);
             below = λ j h. d.below j (omega arith);
-            above = λ j h k. let z = rises ss n up (low + size / 2) j (omega arith) k in omega arith;
+            above = λ j h k. let z = rises ns up (low + size / 2) j (omega arith) k in omega arith;
           }
 
-  pub narrowed_end : size ≤ 1 → (low < length ss → (get_or ss low no_slot).number ≡ n → ⊥) → among n (slot_numbers ss) ≡ false
-  narrowed_end one o = absent_lem ss n up (λ j l e. go j l e (ltb j low) refl (eqb j low) refl)
+  pub narrowed_end : size ≤ 1 → (low < length ns → get_or ns low 0 ≡ n → ⊥) → among n ns ≡ false
+  narrowed_end one o = absent n ns (λ j l e. go j l e (ltb j low) refl (eqb j low) refl)
     where
-      go : (j : ℕ) → j < length ss → (get_or ss j no_slot).number ≡ n → (t : Bool) → ltb j low ≡ t → (u : Bool) → eqb j low ≡ u → ⊥
+      go : (j : ℕ) → j < length ns → get_or ns j 0 ≡ n → (t : Bool) → ltb j low ≡ t → (u : Bool) → eqb j low ≡ u → ⊥
       go j l e true q u v = let k = d.below j (ltb-true j low q) in omega arith
       go j l e false q true v = let w = eqb-true j low v in o (omega arith) (rw w at e)
       go j l e false q false v = let k = d.above j (omega (arith, one, ltb-false j low q, eqb-false j low v)) l in omega arith

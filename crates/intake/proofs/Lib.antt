@@ -1,6 +1,6 @@
 pub mod Numbers
 pub mod Texts
 pub mod Finding
-pub mod Slots
+pub mod Measures
 pub mod Renewing
 pub mod Taking

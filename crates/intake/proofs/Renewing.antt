@@ -1,4 +1,4 @@
--- Walks over the lifts of a legible sheet: their slots made, and the measures of the slots put in.
+-- Walks over the lifts of a legible sheet: their numbers gathered, and new measures put in.
 use Prim.Native.Nat.{ℕ, zero, suc, ◌+◌, ◌≤◌, ◌<◌}
 use mathlib.Core.Path.{◌≡◌, refl, sym, ap, ◌∙◌}
 use mathlib.Core.Bool.{Bool, true, false}
@@ -16,10 +16,8 @@ use Rattle.sheet.specs.Reading.{Legible}
 use Rattle.sheet.proofs.Walks.{words_left, Between, between_none, Turn, turn, last, inside, moved, behind as past}
 use Rattle.sheet.specs.declared.Entry.{Entry}
 use Rattle.scan.specs.Lifts.{FirstLift}
-use Rattle.counts.specs.Counts.{numbers_of, remeasured, measure_for, measured_by}
-use Rattle.intake.specs.Positions.{slots, lifts_with}
-use Rattle.intake.specs.declared.lines.Slot.{Slot}
-use Rattle.intake.proofs.Finding.{no_slot}
+use Rattle.counts.specs.Counts.{numbers_of, remeasured, measured_by}
+use Rattle.intake.specs.Positions.{lifts_with}
 
 -- where a lift is left there is a turn
 pub turn_left : {ws : List ℕ} {i : ℕ} → Between ws i → 0 < length (lifts (drop i ws)) → Turn ws i
@@ -36,34 +34,33 @@ no_lifts : (ls : List Lift) → length ls ≡ 0 → ls ≡ []
 no_lifts [] h = refl
 no_lifts (l ∷ ls) h = absurd (omega arith)
 
--- ---- the slots
+-- ---- the numbers
 
--- the slots so far and those of the lifts left are all
-pub record Numbering (ls : List Lift) (ss : List Slot) (left : List Lift) (k : ℕ) : Type 0 where
-  pub done : take k ss ++ slots (numbers_of left) [] ≡ slots (numbers_of ls) []
-  pub long : length ss ≡ length ls
+-- the numbers so far and those of the lifts left are all
+pub record Numbering (ls : List Lift) (ns : List ℕ) (left : List Lift) (k : ℕ) : Type 0 where
+  pub done : take k ns ++ numbers_of left ≡ numbers_of ls
+  pub long : length ns ≡ length ls
   pub many : k + length left ≡ length ls
 
-pub numbering_none : (ls : List Lift) (ss : List Slot) → length ss ≡ length ls → Numbering ls ss ls 0
-numbering_none ls ss e = record { done = refl; long = e; many = omega arith }
+pub numbering_none : (ls : List Lift) (ns : List ℕ) → length ns ≡ length ls → Numbering ls ns ls 0
+numbering_none ls ns e = record { done = refl; long = e; many = omega arith }
 
-module _ {ls : List Lift} {ss : List Slot} {left : List Lift} {k : ℕ} (d : Numbering ls ss left k) where
-  pub numbering_room : {e : Entry} {rest : List Lift} → FirstLift left e rest → k < length ss
+module _ {ls : List Lift} {ns : List ℕ} {left : List Lift} {k : ℕ} (d : Numbering ls ns left k) where
+  pub numbering_room : {e : Entry} {rest : List Lift} → FirstLift left e rest → k < length ns
   numbering_room f = omega (arith, d.many, d.long, ap length f.first)
 
-  pub numbering_turn : {e : Entry} {rest : List Lift} → FirstLift left e rest → Numbering ls (set ss k (record { number = e.number; measure = None })) rest (k + 1)
-  unfolding measure_for
+  pub numbering_turn : {e : Entry} {rest : List Lift} → FirstLift left e rest → Numbering ls (set ns k e.number) rest (k + 1)
   numbering_turn {e} {rest} f =
       let first = f.first in
       let number : e.number ≡ f.lift.number = ap (λ e. e.number) f.read in
       record {
-        done = rw (add-one k, take-suc-set ss k (record { number = e.number; measure = None }) (numbering_room f), append_assoc, number) (rw first at d.done);
+        done = rw (add-one k, take-suc-set ns k e.number (numbering_room f), append_assoc, number) (rw first at d.done);
         long = rw (length-set) d.long;
         many = omega (arith, ap length first, d.many);
       }
 
-  pub numbering_end : left ≡ [] → ss ≡ slots (numbers_of ls) []
-  numbering_end e = sym (append-nil ss) ∙ (rw (take_all k ss (omega (arith, ap length e, d.many, d.long)), e) at d.done)
+  pub numbering_end : left ≡ [] → ns ≡ numbers_of ls
+  numbering_end e = sym (append-nil ns) ∙ (rw (take_all k ns (omega (arith, ap length e, d.many, d.long)), e) at d.done)
 
 -- ---- the measures
 
@@ -84,11 +81,11 @@ with_length l o = go o l.held
     go (Some m) true = refl
     go (Some m) false = refl
 
-lifts_with_length : (ls : List Lift) (ss : List Slot) → length (lifts_with ls ss) ≡ length ls
+lifts_with_length : (ls : List Lift) (ms : List (Option ℕ)) → length (lifts_with ls ms) ≡ length ls
 unfolding lifts_with
 lifts_with_length ls [] = refl
-lifts_with_length [] (s ∷ ss) = refl
-lifts_with_length (l ∷ ls) (s ∷ ss) = ap suc (lifts_with_length ls ss)
+lifts_with_length [] (m ∷ ms) = refl
+lifts_with_length (l ∷ ls) (m ∷ ms) = ap suc (lifts_with_length ls ms)
 
 -- the words of the lift at a position
 words_here : {ws : List ℕ} {i : ℕ} → Between ws i → Turn ws i → drop i ws ≡ lift_words (lift_of (drop i ws)) ++ drop (past ws i) ws
@@ -98,44 +95,44 @@ words_here {ws} {i} b t =
     let back = words_left t.next in
     sym (words_left b) ∙ rw (here, back)
 
-pub record Putting (ws : List ℕ) (ss : List Slot) (out : List ℕ) (i k : ℕ) : Type 0 where
+pub record Putting (ws : List ℕ) (ms : List (Option ℕ)) (out : List ℕ) (i k : ℕ) : Type 0 where
   pub between : Between ws i
   pub front : List ℕ
   pub is : out ≡ front ++ drop i ws
   pub size : length front ≡ i
-  pub done : front ++ words_then (lifts_with (lifts (drop i ws)) (drop k ss)) (word end_kind (length (lifts ws)) ∷ []) ≡ sheet_of (lifts_with (lifts ws) ss)
-  pub left : k + length (lifts (drop i ws)) ≡ length ss
+  pub done : front ++ words_then (lifts_with (lifts (drop i ws)) (drop k ms)) (word end_kind (length (lifts ws)) ∷ []) ≡ sheet_of (lifts_with (lifts ws) ms)
+  pub left : k + length (lifts (drop i ws)) ≡ length ms
 
-pub putting_none : {ws : List ℕ} {ss : List Slot} → Legible ws → length ss ≡ length (lifts ws) → Putting ws ss ws 0 0
-putting_none {ws} {ss} l e = record { between = between_none l; front = []; is = refl; size = refl; done = rw (lifts_with_length (lifts ws) ss); left = omega arith }
+pub putting_none : {ws : List ℕ} {ms : List (Option ℕ)} → Legible ws → length ms ≡ length (lifts ws) → Putting ws ms ws 0 0
+putting_none {ws} {ms} l e = record { between = between_none l; front = []; is = refl; size = refl; done = rw (lifts_with_length (lifts ws) ms); left = omega arith }
 
-module _ {ws : List ℕ} {ss : List Slot} {out : List ℕ} {i k : ℕ} (d : Putting ws ss out i k) where
+module _ {ws : List ℕ} {ms : List (Option ℕ)} {out : List ℕ} {i k : ℕ} (d : Putting ws ms out i k) where
   pub putting_length : length out ≡ length ws
   putting_length = rw (d.is, length-append, length-drop) (omega (arith, d.size, inside d.between))
 
   pub putting_drop : drop i out ≡ drop i ws
   putting_drop = rw d.is (drop_at d.front (drop i ws) i d.size)
 
-  pub putting_at : k < length ss → Turn ws i
+  pub putting_at : k < length ms → Turn ws i
   putting_at h = turn_left d.between (omega (arith, d.left))
 
-  pub putting_room : k < length ss → i + 3 < length out
+  pub putting_room : k < length ms → i + 3 < length out
   putting_room h = omega (arith, (putting_at h).room, putting_length)
 
-  pub putting_moved : k < length ss → {m : ℕ} → m ≡ indicator (lift_of (drop i out)).held → i + (3 + m) ≤ length out
+  pub putting_moved : k < length ms → {m : ℕ} → m ≡ indicator (lift_of (drop i out)).held → i + (3 + m) ≤ length out
   putting_moved h {m} e = rw putting_length (moved (putting_at h) (rw putting_drop at e))
 
   read_new : get_or out (i + 2) 0 ≡ get_or (drop i ws) 2 0
   read_new = rw (← putting_drop) (sym (get_or-drop i out 2 0))
 
   -- a turn, by what it makes of the lift's words
-  turned : k < length ss → {m : ℕ} {out' : List ℕ} → m ≡ indicator (lift_of (drop i out)).held
-      → out' ≡ d.front ++ (lift_words (measured_by (lift_of (drop i ws)) (get_or ss k no_slot).measure) ++ drop (past ws i) ws) → Putting ws ss out' (i + (3 + m)) (k + 1)
+  turned : k < length ms → {m : ℕ} {out' : List ℕ} → m ≡ indicator (lift_of (drop i out)).held
+      → out' ≡ d.front ++ (lift_words (measured_by (lift_of (drop i ws)) (get_or ms k None)) ++ drop (past ws i) ws) → Putting ws ms out' (i + (3 + m)) (k + 1)
   unfolding words_then lifts_with
   turned h {m} {out'} em eo =
       let t = putting_at h in
       let l = lift_of (drop i ws) in
-      let o = (get_or ss k no_slot).measure in
+      let o = get_or ms k None in
       let here = t.here in
       let n : m ≡ indicator l.held = rw putting_drop at em in
       rw n (record {
@@ -143,15 +140,15 @@ module _ {ws : List ℕ} {ss : List Slot} {out : List ℕ} {i k : ℕ} (d : Putt
         front = d.front ++ lift_words (measured_by l o);
         is = eo ∙ sym (append_assoc d.front (lift_words (measured_by l o)) (drop (past ws i) ws));
         size = length-append d.front (lift_words (measured_by l o)) ∙ (omega (arith, d.size, with_length l o));
-        done = append_assoc d.front (lift_words (measured_by l o)) _ ∙ rw (add-one k) (rw (here, drop-cons ss k no_slot h) at d.done);
+        done = append_assoc d.front (lift_words (measured_by l o)) _ ∙ rw (add-one k) (rw (here, drop-cons ms k None h) at d.done);
         left = omega (arith, one_less t, d.left);
       })
 
-  pub putting_kept : k < length ss → (get_or ss k no_slot).measure ≡ None → {m : ℕ} → m ≡ indicator (lift_of (drop i out)).held → Putting ws ss out (i + (3 + m)) (k + 1)
+  pub putting_kept : k < length ms → get_or ms k None ≡ None → {m : ℕ} → m ≡ indicator (lift_of (drop i out)).held → Putting ws ms out (i + (3 + m)) (k + 1)
   putting_kept h e em = turned h em (d.is ∙ ap (λ xs. d.front ++ xs) (rw e (words_here d.between (putting_at h))))
 
-  pub putting_turn : k < length ss → {x : ℕ} → (get_or ss k no_slot).measure ≡ Some x → {w m : ℕ} → m ≡ indicator (lift_of (drop i out)).held
-      → w ≡ place_word new_kind (record { round = (place_of (get_or out (i + 2) 0)).round; measure = x }) → Putting ws ss (set out (i + 2) w) (i + (3 + m)) (k + 1)
+  pub putting_turn : k < length ms → {x : ℕ} → get_or ms k None ≡ Some x → {w m : ℕ} → m ≡ indicator (lift_of (drop i out)).held
+      → w ≡ place_word new_kind (record { round = (place_of (get_or out (i + 2) 0)).round; measure = x }) → Putting ws ms (set out (i + 2) w) (i + (3 + m)) (k + 1)
   putting_turn h {x} e {w} {m} em ew =
       let words = words_here d.between (putting_at h) in
       turned h em (rw e (at_front (lift_of (drop i ws)) w (rw read_new at ew) (drop (past ws i) ws) words))
@@ -162,9 +159,9 @@ module _ {ws : List ℕ} {ss : List Slot} {out : List ℕ} {i k : ℕ} (d : Putt
           let s = d.size in
           rw (d.is, q, ← s, set_append d.front (lift_words l ++ rest) 2 w) (ap (λ xs. d.front ++ xs) (rw z (words_with l x rest)))
 
-  pub putting_end : length ss ≤ k → out ≡ sheet_of (lifts_with (lifts ws) ss)
+  pub putting_end : length ms ≤ k → out ≡ sheet_of (lifts_with (lifts ws) ms)
   unfolding words_then lifts_with
   putting_end h =
       let e : lifts (drop i ws) ≡ [] = no_lifts (lifts (drop i ws)) (omega (arith, d.left)) in
       let b = words_left d.between in
-      d.is ∙ (rw e at (ap (λ xs. d.front ++ xs) (sym b))) ∙ (rw (e, drop_of_length-le ss h) at d.done)
+      d.is ∙ (rw e at (ap (λ xs. d.front ++ xs) (sym b))) ∙ (rw (e, drop_of_length-le ms h) at d.done)

@@ -1,12 +1,12 @@
 -- The ways out of the call: the sheet lent, the lines, the result.
-use Prim.Native.Nat.{ℕ, zero, suc, ◌+◌, ◌≤◌}
-use mathlib.Core.Path.{◌≡◌, refl, sym, ap, subst, ◌∙◌}
+use Prim.Native.Nat.{ℕ, ◌+◌, ◌≤◌}
+use mathlib.Core.Path.{◌≡◌, sym, ap, subst, ◌∙◌}
 use mathlib.Core.Bool.{Bool, true, false, cond, not, ◌&&◌}
 use mathlib.Core.List.{List, [], ◌∷◌}
 use native.Mathlib.Omega.{arith}
 use lib.ListN.{length, length-map}
-use Rattle.std.specs.Prelude.{All, IfSome}
-use Rattle.sheet.specs.Sheet.{most_lifts, largest_sum, Lift, lifts, sheet_of}
+use Rattle.std.specs.Prelude.{Option, All, IfSome}
+use Rattle.sheet.specs.Sheet.{largest_sum, Lift, lifts, sheet_of}
 use Rattle.reply.specs.Reply.{numbered, replied, of_refusal}
 use Rattle.reply.proofs.Replies.{left}
 use Rattle.probability.specs.Among.{among}
@@ -19,10 +19,9 @@ use Rattle.sheet.proofs.Legibility.{words_legible, AboveWord, above_of_words}
 use Rattle.tally.proofs.Verdicts.{decided}
 use Rattle.reply.specs.declared.Refusal.{Refusal}
 use Rattle.counts.specs.Text.{lines, CountLine, counted, malformed, count_line}
-use Rattle.counts.specs.Counts.{at_line, lines_from, numbers_of, of_lines, renewed, counts_verdict, counts_reply, counts_output}
-use Rattle.intake.specs.Positions.{RisingAbove, slot_numbers, slot, slots, AllTaken, lifts_with, sheet_with}
-use Rattle.intake.specs.declared.lines.Slot.{Slot}
-use Rattle.intake.proofs.Slots.{numbers_slots, slot_small, lifts_slots}
+use Rattle.counts.specs.Counts.{measure_for, at_line, lines_from, numbers_of, of_lines, renewed, counts_verdict, counts_reply, counts_output}
+use Rattle.intake.specs.Positions.{RisingAbove, measures_for, AllTaken, lifts_with, sheet_with}
+use Rattle.intake.proofs.Measures.{all_small, lifts_measured}
 
 -- ---- the lifts of a legible sheet
 
@@ -55,53 +54,42 @@ behind_words : (ws text : List ℕ) → Legible ws → unless_faulty (of_lines (
 unfolding counts_verdict
 behind_words ws text l = ap (λ r. unless_faulty r (unless_faulty (of_lines (lifts ws) (lines text)) (verdict (renewed ws text)))) (words_legible l)
 
-module _ (ws text : List ℕ) {ss : List Slot} (l : Legible ws) (e : ss ≡ slots (numbers_of (lifts ws)) []) where
-  named : slot_numbers ss ≡ numbers_of (lifts ws)
-  named = ap slot_numbers e ∙ numbers_slots (numbers_of (lifts ws)) []
+module _ {ws ns : List ℕ} (l : Legible ws) (e : ns ≡ numbers_of (lifts ws)) where
+  pub rising : RisingAbove 0 ns
+  rising = subst (RisingAbove 0) (sym e) (numbers_rising 0 (lifts ws) (read_theorem ws l.read).well_formed.listed)
 
-  pub rising : RisingAbove 0 (slot_numbers ss)
-  rising = subst (RisingAbove 0) (sym named) (numbers_rising 0 (lifts ws) (read_theorem ws l.read).well_formed.listed)
+  pub numbers_long : length ns ≡ length (lifts ws)
+  numbers_long = ap length e ∙ length-map (lifts ws) (λ l. l.number)
 
-  pub few_slots : length ss ≤ most_lifts
-  few_slots = omega (arith, ap length e ∙ length-map (numbers_of (lifts ws)) (slot []) ∙ length-map (lifts ws) (λ l. l.number), few l refl)
-
-  pub no_line : ss ≡ slots (slot_numbers ss) []
-  no_line = e ∙ ap (λ ns. slots ns []) (sym named)
-
-  pub at_line_lem : (x : Refusal) → lines_from (slot_numbers ss) [] 1 (lines text) ≡ faulty (refusal_of x) → (of_refusal (refusal_of x) ≡ counts_reply ws text) × (ws ≡ counts_output ws text)
-  at_line_lem x g =
-      let t = rw named at g in
+  pub at_line_lem : (text : List ℕ) (x : Refusal) → lines_from ns [] 1 (lines text) ≡ faulty (refusal_of x) → (of_refusal (refusal_of x) ≡ counts_reply ws text) × (ws ≡ counts_output ws text)
+  at_line_lem text x g =
+      let t = rw e at g in
       let w = rw t at (behind_words ws text l) in
       left ws (renewed ws text) (λ z. omega (arith, subst AboveWord t (above_lines (numbers_of (lifts ws)) [] 1 (lines text)), z)) (rw (← w))
 
-  module _ {n : ℕ} {taken : List Slot} (t : AllTaken (slot_numbers ss) (lines text) n taken) where
-    is_slots : taken ≡ slots (numbers_of (lifts ws)) (lines text)
-    is_slots = t.filled ∙ ap (λ ns. slots ns (lines text)) named
+  module _ (text : List ℕ) {n : ℕ} {ms : List (Option ℕ)} (t : AllTaken ns (lines text) n ms) where
+    is_measures : ms ≡ measures_for (numbers_of (lifts ws)) (lines text)
+    is_measures = t.filled ∙ ap (λ ns. measures_for ns (lines text)) e
 
-    pub taken_long : length taken ≡ length (lifts ws)
-    taken_long = ap length is_slots ∙ length-map (numbers_of (lifts ws)) (slot (lines text)) ∙ length-map (lifts ws) (λ l. l.number)
+    pub taken_long : length ms ≡ length (lifts ws)
+    taken_long = ap length is_measures ∙ length-map (numbers_of (lifts ws)) (measure_for (lines text)) ∙ length-map (lifts ws) (λ l. l.number)
 
-    pub taken_small : All (λ s. IfSome s.measure (λ m. m ≤ largest_sum)) taken
-    taken_small = rw is_slots (all_small (numbers_of (lifts ws)))
-      where
-        all_small : (ns : List ℕ) → All (λ s. IfSome s.measure (λ m. m ≤ largest_sum)) (slots ns (lines text))
-        all_small [] k d h = absurd (omega arith)
-        all_small (n ∷ ns) zero d h = slot_small (lines text) n
-        all_small (n ∷ ns) (suc k) d h = all_small ns k d (omega arith)
+    pub taken_small : All (λ o. IfSome o (λ m. m ≤ largest_sum)) ms
+    taken_small = rw is_measures (all_small (lines text) (numbers_of (lifts ws)))
 
-    sheet_with_lem : sheet_with ws taken ≡ renewed ws text
-    sheet_with_lem = ap sheet_of (ap (lifts_with (lifts ws)) is_slots ∙ lifts_slots (lines text) (lifts ws))
+    sheet_with_lem : sheet_with ws ms ≡ renewed ws text
+    sheet_with_lem = ap sheet_of (ap (lifts_with (lifts ws)) is_measures ∙ lifts_measured (lines text) (lifts ws))
 
-    answered : verdict (sheet_with ws taken) ≡ counts_verdict ws text
-    answered = ap verdict sheet_with_lem ∙ (rw (rw named at t.sound) at (behind_words ws text l))
+    answered : verdict (sheet_with ws ms) ≡ counts_verdict ws text
+    answered = ap verdict sheet_with_lem ∙ (rw (rw e at t.sound) at (behind_words ws text l))
 
     -- the result's verdict is that of the call
-    pub at_refused : (x : Refusal) → refused (refusal_of x) ≡ verdict (sheet_with ws taken) → (of_refusal (refusal_of x) ≡ counts_reply ws text) × (ws ≡ counts_output ws text)
+    pub at_refused : (x : Refusal) → refused (refusal_of x) ≡ verdict (sheet_with ws ms) → (of_refusal (refusal_of x) ≡ counts_reply ws text) × (ws ≡ counts_output ws text)
     at_refused x v =
         let w = v ∙ answered in
-        left ws (renewed ws text) (λ z. omega (arith, (decided crowded (sheet_with ws taken)).above (refusal_of x) (sym v), z)) (rw (← w))
+        left ws (renewed ws text) (λ z. omega (arith, (decided crowded (sheet_with ws ms)).above (refusal_of x) (sym v), z)) (rw (← w))
 
-    pub at_fits : {a b : ℕ} → fits a b ≡ verdict (sheet_with ws taken) → (replied n 0 ≡ counts_reply ws text) × (sheet_with ws taken ≡ counts_output ws text)
+    pub at_fits : {a b : ℕ} → fits a b ≡ verdict (sheet_with ws ms) → (replied n 0 ≡ counts_reply ws text) × (sheet_with ws ms ≡ counts_output ws text)
     at_fits v = let w = v ∙ answered in (rw (← w, t.many), rw (← w) sheet_with_lem)
 
 -- ---- the sheet lent

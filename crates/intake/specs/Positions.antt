@@ -1,11 +1,10 @@
--- The text as the code reads it: numbers clamped, lines from the front, new measures in one slot for each lift.
-use Rattle.std.specs.Prelude.{ℕ, suc, ◌<◌, ◌≡◌, true, cond, List, [], ◌∷◌, map, eqb, min, length, get_or, take, drop}
+-- The text as the code reads it: numbers clamped, lines from the front, new measures in the places of their lifts.
+use Rattle.std.specs.Prelude.{ℕ, suc, ◌<◌, ◌≡◌, true, cond, List, [], ◌∷◌, map, eqb, min, length, get_or, take, drop, Option}
 use Rattle.sheet.specs.Sheet.{Lift, lifts, sheet_of}
 use Rattle.sheet.specs.Reading.{sound}
 use Rattle.counts.specs.Text.{LF, lines, is_digit, value, empty, is_number, counted, count_line}
 use Rattle.counts.specs.Counts.{lines_from, measure_for, measured_by}
 use Rattle.intake.specs.declared.text.Line.{Line}
-use Rattle.intake.specs.declared.lines.Slot.{Slot}
 
 -- ---- numbers
 
@@ -57,32 +56,24 @@ unfoldable pub RisingAbove : ℕ → List ℕ → Type 0
 RisingAbove n [] = Unit {0}
 RisingAbove n (m ∷ ms) = (n < m) × RisingAbove m ms
 
--- the numbers of slots
-abbrev pub slot_numbers : List Slot → List ℕ
-slot_numbers ss = map (λ s. s.number) ss
+-- the new measures that lines give the lifts with these numbers
+abbrev pub measures_for : List ℕ → List (List ℕ) → List (Option ℕ)
+measures_for ns xs = map (measure_for xs) ns
 
--- a lift's slot: its number, and the new measure that lines give it, if one does
-abbrev pub slot : List (List ℕ) → ℕ → Slot
-slot xs n = record { number = n; measure = measure_for xs n }
-
--- the slots of the lifts with these numbers
-abbrev pub slots : List ℕ → List (List ℕ) → List Slot
-slots ns xs = map (slot xs) ns
-
--- lines that are all taken: how many, and the slots that they leave
-pub record AllTaken (ns : List ℕ) (xs : List (List ℕ)) (n : ℕ) (ss : List Slot) : Type 0 where
+-- lines that are all taken: how many, and the new measures that they give
+pub record AllTaken (ns : List ℕ) (xs : List (List ℕ)) (n : ℕ) (ms : List (Option ℕ)) : Type 0 where
   pub sound : lines_from ns [] 1 xs ≡ sound
   pub many : n ≡ length xs
-  pub filled : ss ≡ slots ns xs
+  pub filled : ms ≡ measures_for ns xs
 
 -- ---- the sheet
 
--- lifts with the measures of their slots
-unfoldable pub lifts_with : List Lift → List Slot → List Lift
+-- lifts with new measures, for each in its place, if there is one
+unfoldable pub lifts_with : List Lift → List (Option ℕ) → List Lift
 lifts_with ls [] = ls
-lifts_with [] (s ∷ ss) = []
-lifts_with (l ∷ ls) (s ∷ ss) = measured_by l s.measure ∷ lifts_with ls ss
+lifts_with [] (m ∷ ms) = []
+lifts_with (l ∷ ls) (m ∷ ms) = measured_by l m ∷ lifts_with ls ms
 
--- a sheet's words with the measures of slots
-abbrev pub sheet_with : List ℕ → List Slot → List ℕ
-sheet_with ws ss = sheet_of (lifts_with (lifts ws) ss)
+-- a sheet's words with new measures
+abbrev pub sheet_with : List ℕ → List (Option ℕ) → List ℕ
+sheet_with ws ms = sheet_of (lifts_with (lifts ws) ms)

@@ -1,33 +1,29 @@
 // The monitoring centre's counts taken into a sheet (Card 1 of document 02).
 #![tactic(auto)]
 
-ghost use Rattle.std.specs.Prelude.{◌≡◌, ◌≤◌, [], length, All, IfSome};
+ghost use Rattle.std.specs.Prelude.{◌≡◌, ◌≤◌, length, All, IfSome};
 ghost use Rattle.reply.specs.Reply.{replied, unless_refused};
 ghost use Rattle.reply.specs.Refusal.{reply_of};
 ghost use Rattle.sheet.specs.Sheet.{largest_sum, new_kind, place_of, place_word, lifts};
 ghost use Rattle.sheet.specs.Reading.{Legible};
 ghost use Rattle.counts.specs.Counts.{numbers_of, counts_reply, counts_output};
 ghost use Rattle.counts.specs.Law.{Takes};
-ghost use Rattle.intake.specs.Positions.{slots as slots_of, sheet_with};
+ghost use Rattle.intake.specs.Positions.{sheet_with};
 
-use lines::Slot;
 use reply::{Done, Refusal};
 use sheet::Sheet;
 
 mod lines;
 mod text;
 
-// The slots of a legible sheet's lifts, before any line.
-fn number_lifts(sheet: &[u32], slots: &mut [Slot])
+// The numbers of a legible sheet's lifts.
+fn number_lifts(sheet: &[u32], numbers: &mut [u32])
     requires legible { Legible sheet.now }
-    requires slots_len { length slots.old ≡ length (lifts sheet.now) }
-    ensures { slots.new ≡ slots_of (numbers_of (lifts sheet.now)) [] }
+    requires numbers_len { length numbers.old ≡ length (lifts sheet.now) }
+    ensures { numbers.new ≡ numbers_of (lifts sheet.now) }
 {
     for (k, lift) in scan::lifts(sheet).enumerate() {
-        slots[k] = Slot {
-            number: lift.number,
-            measure: None,
-        };
+        numbers[k] = lift.number;
     }
 }
 
@@ -40,17 +36,17 @@ fn renew(word: u32, measure: u32) -> u32
     Sheet::word(Sheet::NEW, Sheet::place(round, measure))
 }
 
-// The measures of the slots put into a legible sheet.
-fn put(sheet: &mut [u32], slots: &[Slot])
+// New measures put into a legible sheet, for each lift in its place, if there is one.
+fn put(sheet: &mut [u32], measures: &[Option<u32>])
     requires legible { Legible sheet.old }
-    requires slots_len { length slots.now ≡ length (lifts sheet.old) }
-    requires small { All (λ s. IfSome s.measure (λ m. m ≤ largest_sum)) slots.now }
-    ensures { sheet.new ≡ sheet_with sheet.old slots.now }
+    requires measures_len { length measures.now ≡ length (lifts sheet.old) }
+    requires small { All (λ o. IfSome o (λ m. m ≤ largest_sum)) measures.now }
+    ensures { sheet.new ≡ sheet_with sheet.old measures.now }
 {
     let mut i = 0;
-    for slot in slots {
+    for measure in measures {
         let held = scan::marks(sheet, i);
-        if let Some(measure) = slot.measure {
+        if let Some(measure) = *measure {
             sheet[i + 2] = renew(sheet[i + 2], measure);
         }
         i += 3 + held;
@@ -64,18 +60,17 @@ pub fn take(sheet: &mut [u32], text: &[u8]) -> Result<Done, Refusal>
     ensures taken { Takes sheet.old text.now }
 {
     scan::read(sheet)?;
-    let empty = Slot {
-        number: 0,
-        measure: None,
-    };
-    let mut slots = [empty; Sheet::MOST_LIFTS];
-    let slots = &mut slots[..scan::size(sheet)];
+    let n = scan::size(sheet);
+    let mut numbers = [0; Sheet::MOST_LIFTS];
+    let numbers = &mut numbers[..n];
+    let mut measures = [None; Sheet::MOST_LIFTS];
+    let measures = &mut measures[..n];
     let mut words = [0; Sheet::LONGEST];
     let words = &mut words[..sheet.len()];
-    number_lifts(sheet, slots);
-    let many = lines::gather(text, slots)?;
+    number_lifts(sheet, numbers);
+    let many = lines::gather(text, numbers, measures)?;
     words.copy_from_slice(sheet);
-    put(words, slots);
+    put(words, measures);
     survey::check(words)?;
     sheet.copy_from_slice(words);
     Ok(Done { many, words: 0 })

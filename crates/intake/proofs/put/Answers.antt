@@ -3,24 +3,24 @@ use Rattle.intake.proofs.Renewing.{putting_none, putting_room, putting_kept, put
 use Rattle.intake.proofs.put.Goals as goal
 use Rattle.intake.proofs.put.Goals.{in-Some, in_default}
 
-pub loop-slot-init : goal.loop-slot-init
-loop-slot-init c = putting_none c.requires.legible c.requires.slots_len
+pub loop-measure-init : goal.loop-measure-init
+loop-measure-init c = putting_none c.requires.legible c.requires.measures_len
 
 pub marks-held-requires : goal.marks-held-requires
-marks-held-requires c = putting_room c.loop-slot.invariant c.loop-slot-test.true
+marks-held-requires c = putting_room c.loop-measure.invariant c.loop-measure-test.true
 
 pub bounds-sheet-i : goal.bounds-sheet-i
-bounds-sheet-i c = omega (arith, putting_room c.loop-slot.invariant c.loop-slot-test.true)
+bounds-sheet-i c = omega (arith, putting_room c.loop-measure.invariant c.loop-measure-test.true)
 
 pub bounds-sheet-i-in-Some : goal.bounds-sheet-i-in-Some
-bounds-sheet-i-in-Some c = omega (arith, putting_room c.loop-slot.invariant c.loop-slot-test.true)
+bounds-sheet-i-in-Some c = omega (arith, putting_room c.loop-measure.invariant c.loop-measure-test.true)
 
-pub loop-slot-preserved : goal.loop-slot-preserved
-loop-slot-preserved c =
-    elim c.match-slot.branch [
-      | in-Some w ↦ rw w.sheet-is (putting_turn c.loop-slot.invariant c.loop-slot-test.true w.in-Some.is c.marks-held.ensures w.renew.ensures)
-      | in_default w ↦ rw w.sheet-is (putting_kept c.loop-slot.invariant c.loop-slot-test.true w.in_default.is c.marks-held.ensures)
+pub loop-measure-preserved : goal.loop-measure-preserved
+loop-measure-preserved c =
+    elim c.match-measure.branch [
+      | in-Some w ↦ rw w.sheet-is (putting_turn c.loop-measure.invariant c.loop-measure-test.true w.in-Some.is c.marks-held.ensures w.renew.ensures)
+      | in_default w ↦ rw w.sheet-is (putting_kept c.loop-measure.invariant c.loop-measure-test.true w.in_default.is c.marks-held.ensures)
     ]
 
 pub returns : goal.returns
-returns c = putting_end c.loop-slot.invariant c.loop-slot-test.false
+returns c = putting_end c.loop-measure.invariant c.loop-measure-test.false

@@ -2,5 +2,5 @@
 use Rattle.intake.proofs.Renewing.{Putting}
 use Rattle.intake.proofs.put.Given as goal
 
-abbrev pub invariant-loop-slot : goal.invariant-loop-slot
-invariant-loop-slot l = Putting l.initial.sheet l.slots l.sheet l.i l.slot-index
+abbrev pub invariant-loop-measure : goal.invariant-loop-measure
+invariant-loop-measure l = Putting l.initial.sheet l.measures l.sheet l.i l.measure-index

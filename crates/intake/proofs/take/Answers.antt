@@ -1,10 +1,13 @@
 -- `intake::take` meets its contract: one law for each way out: a refusal of the words of the sheet lent, of a line, of the result, and the result. Assumes nothing.
-use mathlib.Core.Path.{sym, ◌∙◌}
+use mathlib.Core.Path.{sym, ap, ◌∙◌}
+use lib.ListN.{replicate}
+use Rattle.std.specs.Prelude.{None}
+use Rattle.std.proofs.lemmas.List.{take-replicate}
 use lib.Seq.{length-take-le}
 use Rattle.std.proofs.lemmas.Result.{err_from_is_err_and}
 use Rattle.sheet.proofs.Legibility.{legible_words}
 use Rattle.counts.proofs.Taken.{takes}
-use Rattle.intake.proofs.Taking.{few, few_slots, rising, no_line, at_word, at_line_lem, taken_small, taken_long, at_refused, at_fits}
+use Rattle.intake.proofs.Taking.{few, numbers_long, rising, at_word, at_line_lem, taken_small, taken_long, at_refused, at_fits}
 use Rattle.intake.proofs.take.Goals as goal
 
 pub returns-in_err-read : goal.returns-in_err-read
@@ -13,42 +16,51 @@ returns-in_err-read c =
     let q = at_word c.args.sheet.now c.args.text.now _ c.in_err-read.ensures in
     record { replied = rw (p.1, p.2) q.0; written = q.1; taken = takes _ _ }
 
-pub slice_bounds-slots-end : goal.slice_bounds-slots-end
-slice_bounds-slots-end c = few (legible_words (sym c.in_ok-read.ensures)) c.size.ensures
+pub slice_bounds-numbers-end : goal.slice_bounds-numbers-end
+slice_bounds-numbers-end c = few (legible_words (sym c.in_ok-read.ensures)) c.size-n.ensures
 
-pub slice_bounds-slots-end-2 : goal.slice_bounds-slots-end-2
-slice_bounds-slots-end-2 c = sym (length-take-le _ _ (few (legible_words (sym c.in_ok-read.ensures)) c.size.ensures))
+pub slice_bounds-numbers-end-2 : goal.slice_bounds-numbers-end-2
+slice_bounds-numbers-end-2 c = sym (length-take-le _ _ (few (legible_words (sym c.in_ok-read.ensures)) c.size-n.ensures))
 
-pub number_lifts-requires-clause-slots_len : goal.number_lifts-requires-clause-slots_len
-number_lifts-requires-clause-slots_len c = length-take-le _ _ (few (legible_words (sym c.in_ok-read.ensures)) c.size.ensures) ∙ c.size.ensures
+pub slice_bounds-measures-end : goal.slice_bounds-measures-end
+slice_bounds-measures-end c = few (legible_words (sym c.in_ok-read.ensures)) c.size-n.ensures
+
+pub slice_bounds-measures-end-2 : goal.slice_bounds-measures-end-2
+slice_bounds-measures-end-2 c = sym (length-take-le _ _ (few (legible_words (sym c.in_ok-read.ensures)) c.size-n.ensures))
+
+pub number_lifts-requires-clause-numbers_len : goal.number_lifts-requires-clause-numbers_len
+number_lifts-requires-clause-numbers_len c = length-take-le _ _ (few (legible_words (sym c.in_ok-read.ensures)) c.size-n.ensures) ∙ c.size-n.ensures
 
 pub gather-requires : goal.gather-requires
 gather-requires c =
-    let l = legible_words (sym c.in_ok-read.ensures) in
-    record { few = few_slots c.args.sheet.now c.args.text.now l c.number_lifts.ensures; rising = rising c.args.sheet.now c.args.text.now l c.number_lifts.ensures; empty = no_line c.args.sheet.now c.args.text.now l c.number_lifts.ensures }
+    let long = numbers_long (legible_words (sym c.in_ok-read.ensures)) c.number_lifts.ensures in
+    record {
+      few = few (legible_words (sym c.in_ok-read.ensures)) long;
+      rising = rising (legible_words (sym c.in_ok-read.ensures)) c.number_lifts.ensures;
+      empty = take-replicate _ _ None (few (legible_words (sym c.in_ok-read.ensures)) c.size-n.ensures) ∙ ap (λ n. replicate n None) (c.size-n.ensures ∙ sym long);
+    }
 
 pub returns-in_err-many : goal.returns-in_err-many
 returns-in_err-many c =
     let p = err_from_is_err_and c.from_residual-in_err-many.result c.from_residual-in_err-many.ensures.1 in
-    let q = at_line_lem c.args.sheet.now c.args.text.now (legible_words (sym c.in_ok-read.ensures)) c.number_lifts.ensures _ c.in_err-many.ensures in
+    let q = at_line_lem (legible_words (sym c.in_ok-read.ensures)) c.number_lifts.ensures c.args.text.now _ c.in_err-many.ensures in
     record { replied = rw (p.1, p.2) q.0; written = q.1; taken = takes _ _ }
 
-pub put-requires-clause-slots_len : goal.put-requires-clause-slots_len
-put-requires-clause-slots_len c =
-    rw c.copy_from_slice.ensures.after (taken_long c.args.sheet.now c.args.text.now (legible_words (sym c.in_ok-read.ensures)) c.number_lifts.ensures c.in_ok-many.ensures)
+pub put-requires-clause-measures_len : goal.put-requires-clause-measures_len
+put-requires-clause-measures_len c = rw c.copy_from_slice.ensures.after (taken_long (legible_words (sym c.in_ok-read.ensures)) c.number_lifts.ensures c.args.text.now c.in_ok-many.ensures)
 
 pub put-requires-clause-small : goal.put-requires-clause-small
-put-requires-clause-small c = taken_small c.args.sheet.now c.args.text.now (legible_words (sym c.in_ok-read.ensures)) c.number_lifts.ensures c.in_ok-many.ensures
+put-requires-clause-small c = taken_small (legible_words (sym c.in_ok-read.ensures)) c.number_lifts.ensures c.args.text.now c.in_ok-many.ensures
 
 pub returns-in_err-check : goal.returns-in_err-check
 returns-in_err-check c =
     let p = err_from_is_err_and c.from_residual-in_err-check.result c.from_residual-in_err-check.ensures.1 in
     let v = rw (c.put.ensures, c.copy_from_slice.ensures.after) at c.in_err-check.ensures in
-    let q = at_refused c.args.sheet.now c.args.text.now (legible_words (sym c.in_ok-read.ensures)) c.number_lifts.ensures c.in_ok-many.ensures _ v in
+    let q = at_refused (legible_words (sym c.in_ok-read.ensures)) c.number_lifts.ensures c.args.text.now c.in_ok-many.ensures _ v in
     record { replied = rw (p.1, p.2) q.0; written = q.1; taken = takes _ _ }
 
 pub returns : goal.returns
 returns c =
     let v = rw (c.put.ensures, c.copy_from_slice.ensures.after) at c.in_ok-check.ensures in
-    let q = at_fits c.args.sheet.now c.args.text.now (legible_words (sym c.in_ok-read.ensures)) c.number_lifts.ensures c.in_ok-many.ensures v in
+    let q = at_fits (legible_words (sym c.in_ok-read.ensures)) c.number_lifts.ensures c.args.text.now c.in_ok-many.ensures v in
     record { replied = q.0; written = rw (c.copy_from_slice-2.ensures.after, c.put.ensures, c.copy_from_slice.ensures.after) q.1; taken = takes _ _ }

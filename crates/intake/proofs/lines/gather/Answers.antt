@@ -1,7 +1,6 @@
-use Rattle.std.proofs.Common.{rules, subst, sym}
+use Rattle.std.proofs.Common.{rules, sym}
 use Rattle.std.proofs.lemmas.Result.{err_from_is_err_and}
-use Rattle.intake.specs.Positions.{RisingAbove}
-use Rattle.intake.proofs.Slots.{refused_by, taken_by, kept_none, kept_numbers, kept_end, kept_malformed, kept_less, kept_absent, kept_had, kept_turn}
+use Rattle.intake.proofs.Measures.{refused_by, taken_by, kept_none, kept_end, kept_malformed, kept_less, kept_absent, kept_had, kept_turn}
 use Rattle.intake.proofs.lines.gather.Goals as goal
 
 pub loop-rest-init : goal.loop-rest-init
@@ -12,9 +11,6 @@ returns-in_err-line c =
     let p = err_from_is_err_and c.from_residual.result c.from_residual.ensures.1 in
     let q = refused_by _ _ _ _ c.in_err-line.ensures.value c.read_line.ensures in
     rw (p.1, p.2, q.1) (kept_malformed c.loop-rest.invariant (search rules) q.0)
-
-pub find-requires : goal.find-requires
-find-requires c = record { few = search rules; rising = subst (RisingAbove 0) (sym (kept_numbers c.loop-rest.invariant)) c.requires.rising }
 
 pub returns-in_err-k : goal.returns-in_err-k
 returns-in_err-k c =

@@ -1,10 +1,7 @@
-use Rattle.intake.proofs.Numbers.{reading_none, reading_turn, reading_end}
+use Rattle.intake.proofs.Numbers.{reading_turn, reading_end}
 use Rattle.std.proofs.Common.{rules}
 use Rattle.intake.proofs.text.read_digits.Goals as goal
 use Rattle.intake.proofs.text.read_digits.Goals.{in_default, in_default-2, in_default-3}
-
-pub loop-rest-init : goal.loop-rest-init
-loop-rest-init c = reading_none _
 
 pub loop-rest-preserved : goal.loop-rest-preserved
 loop-rest-preserved c = reading_turn _ c.loop-rest.invariant c.in-48-to-57.len_at_least (search rules) (search rules) c.from.ensures c.min-value.ensures

@@ -1,44 +1,38 @@
--- The loop over the lines: a slot for each lift holds the measure of its line, and the lines left decide the outcome.
+-- The loop over the lines: each lift has the measure of its line, and the lines left decide the outcome.
 use Prim.Native.Nat.{ℕ, zero, suc, ◌+◌, ◌≤◌, ◌<◌}
 use mathlib.Core.Path.{◌≡◌, refl, sym, ap, ap₂, subst, ◌∙◌}
 use mathlib.Core.Bool.{Bool, true, false, cond, ◌||◌, and-false}
 use mathlib.Core.List.{List, [], ◌∷◌, ◌++◌, map, append_assoc, append-nil}
 use native.Mathlib.Omega.{arith}
 use lib.Dec.{eqb}
-use lib.ListN.{length, get_or, set, drop, length-append, length-map, length-drop}
+use lib.ListN.{length, get_or, set, drop, replicate, length-append, length-map, length-drop}
 use borrow.Author.Tests.{eqb-true, eqb-false, eq-eqb, ne_eqb}
-use Rattle.std.specs.Prelude.{Option, Some, None, Ok, Err, HoldsAt, IfSome, is_some, MatchOption}
+use Rattle.std.specs.Prelude.{Option, Some, None, Ok, Err, All, IfSome, is_some, MatchOption}
 use Rattle.std.specs.Int.{div_ceil}
 use Rattle.std.specs.Option.{option_or, ok_or}
 use Rattle.sheet.specs.Sheet.{largest_sum, Lift}
 use Rattle.sheet.specs.Reading.{faulty}
 use Rattle.reply.specs.Refusal.{refusal_of}
 use Rattle.reply.specs.declared.Refusal.TheVariants.{Form, Lift as AboutLift}
-use Rattle.counts.specs.Text.{LF, lines, largest_count, CountLine, counted, malformed, count_line}
+use Rattle.counts.specs.Text.{LF, lines, CountLine, counted, malformed, count_line}
 use Rattle.probability.specs.Among.{among}
 use Rattle.counts.specs.Counts.{at_line, lines_from, numbers_of, hundreds, measure_by, measure_for, measured}
-use Rattle.counts.proofs.Small.{count_small, measure_for_small}
-use Rattle.intake.specs.Positions.{first_line, extent, LineRead, RisingAbove, slot_numbers, slot, slots, AllTaken, lifts_with}
+use Rattle.counts.proofs.Small.{measure_for_small}
+use Rattle.intake.specs.Positions.{first_line, extent, LineRead, RisingAbove, measures_for, AllTaken, lifts_with}
 use Rattle.intake.specs.declared.text.Line.{Line}
-use Rattle.intake.specs.declared.lines.Slot.{Slot}
 use Rattle.intake.proofs.Texts.{first_line_lem}
-use Rattle.intake.proofs.Finding.{no_slot, number_at, rising_above, present}
+use Rattle.intake.proofs.Finding.{rising_above, present}
 
 -- a count in hundreds, rounded up, as the library computes it
 rounded : (c : ℕ) → div_ceil c 100 ≡ hundreds c
 rounded c = grind arith
 
--- ---- slots
+-- ---- measures
 
-pub slot_at : (xs : List (List ℕ)) (ns : List ℕ) (k : ℕ) → k < length ns → get_or (slots ns xs) k no_slot ≡ slot xs (get_or ns k 0)
-slot_at xs [] k h = absurd (omega arith)
-slot_at xs (n ∷ ns) zero h = refl
-slot_at xs (n ∷ ns) (suc k) h = slot_at xs ns k (omega arith)
-
--- the slots' numbers are those that they were made for
-pub numbers_slots : (ns : List ℕ) (xs : List (List ℕ)) → slot_numbers (slots ns xs) ≡ ns
-numbers_slots [] xs = refl
-numbers_slots (n ∷ ns) xs = ap (λ ms. n ∷ ms) (numbers_slots ns xs)
+pub measure_at : (xs : List (List ℕ)) (ns : List ℕ) (k : ℕ) → k < length ns → get_or (measures_for ns xs) k None ≡ measure_for xs (get_or ns k 0)
+measure_at xs [] k h = absurd (omega arith)
+measure_at xs (n ∷ ns) zero h = refl
+measure_at xs (n ∷ ns) (suc k) h = measure_at xs ns k (omega arith)
 
 -- one line more gives a lift its measure if none before did
 measure_last : (xs : List (List ℕ)) (x : List ℕ) (n : ℕ) → measure_for (xs ++ (x ∷ [])) n ≡ option_or (measure_for xs n) (measure_by (count_line x) n None)
@@ -71,22 +65,19 @@ module _ (xs : List (List ℕ)) (x : List ℕ) {n c : ℕ} (e : count_line x ≡
   measure_own : measure_for xs n ≡ None → measure_for (xs ++ (x ∷ [])) n ≡ Some (hundreds c)
   measure_own h = rw (measure_last xs x n, e, h, eq-eqb n n refl)
 
-  other_slot : (m : ℕ) → (n ≡ m → ⊥) → slot (xs ++ (x ∷ [])) m ≡ slot xs m
-  other_slot m o = ap (λ o. record { number = m; measure = o }) (measure_other m o)
-
-  other_slots : (b : ℕ) (ns : List ℕ) → RisingAbove b ns → n ≤ b → slots ns (xs ++ (x ∷ [])) ≡ slots ns xs
+  other_measures : (b : ℕ) (ns : List ℕ) → RisingAbove b ns → n ≤ b → measures_for ns (xs ++ (x ∷ [])) ≡ measures_for ns xs
   unfolding RisingAbove
-  other_slots b [] r h = refl
-  other_slots b (m ∷ ms) r h = let l = r.0 in ap₂ ◌∷◌ (other_slot m (λ q. omega arith)) (other_slots m ms r.1 (omega arith))
+  other_measures b [] r h = refl
+  other_measures b (m ∷ ms) r h = let l = r.0 in ap₂ ◌∷◌ (measure_other m (λ q. omega arith)) (other_measures m ms r.1 (omega arith))
 
-  set_slot : measure_for xs n ≡ None → (b : ℕ) (ns : List ℕ) → RisingAbove b ns → (k : ℕ) → k < length ns → get_or ns k 0 ≡ n
-      → set (slots ns xs) k (record { number = n; measure = Some (hundreds c) }) ≡ slots ns (xs ++ (x ∷ []))
+  set_measure : measure_for xs n ≡ None → (b : ℕ) (ns : List ℕ) → RisingAbove b ns → (k : ℕ) → k < length ns → get_or ns k 0 ≡ n
+      → set (measures_for ns xs) k (Some (hundreds c)) ≡ measures_for ns (xs ++ (x ∷ []))
   unfolding RisingAbove
-  set_slot f b [] r k h q = absurd (omega arith)
-  set_slot f b (m ∷ ms) r zero h q = ap₂ ◌∷◌ (sym (rw q (ap (λ o. record { number = n; measure = o }) (measure_own f)))) (sym (other_slots m ms r.1 (omega arith)))
-  set_slot f b (m ∷ ms) r (suc k) h q =
+  set_measure f b [] r k h q = absurd (omega arith)
+  set_measure f b (m ∷ ms) r zero h q = ap₂ ◌∷◌ (sym (rw q (measure_own f))) (sym (other_measures m ms r.1 (omega arith)))
+  set_measure f b (m ∷ ms) r (suc k) h q =
       let l = rising_above m ms r.1 k (omega arith) in
-      ap₂ ◌∷◌ (sym (other_slot m (λ z. omega arith))) (set_slot f m ms r.1 k (omega arith) q)
+      ap₂ ◌∷◌ (sym (measure_other m (λ z. omega arith))) (set_measure f m ms r.1 k (omega arith) q)
 
   -- whether a lift had a line is whether it has a measure
   heard_turn : (had : List ℕ) → measure_for xs n ≡ None → ((m : ℕ) → among m had ≡ is_some (measure_for xs m)) → (m : ℕ) → among m (n ∷ had) ≡ is_some (measure_for (xs ++ (x ∷ [])) m)
@@ -126,42 +117,47 @@ taken_by P Q None e h m = cc
 taken_by P Q (Some z) e {y} h m = let q : z ≡ y = cc in subst Q q m
 
 -- every measure is small
-pub slot_small : (xs : List (List ℕ)) (n : ℕ) → IfSome (slot xs n).measure (λ m. m ≤ largest_sum)
-slot_small xs n = go (measure_for xs n) refl
+pub all_small : (xs : List (List ℕ)) (ns : List ℕ) → All (λ o. IfSome o (λ m. m ≤ largest_sum)) (measures_for ns xs)
+all_small xs [] k d h = absurd (omega arith)
+all_small xs (n ∷ ns) zero d h = go (measure_for xs n) refl
   where
     go : (o : Option ℕ) → measure_for xs n ≡ o → IfSome o (λ m. m ≤ largest_sum)
     go None e = tt
     go (Some m) e = measure_for_small xs n e
+all_small xs (n ∷ ns) (suc k) d h = all_small xs ns k d (omega arith)
 
 -- ---- the loop
 
-pub record LinesKept (text ns : List ℕ) (ss : List Slot) (rest : List ℕ) (i : ℕ) : Type 0 where
+pub record LinesKept (text ns : List ℕ) (ms : List (Option ℕ)) (rest : List ℕ) (i : ℕ) : Type 0 where
   pub done : List (List ℕ)
   pub had : List ℕ
   pub parted : done ++ lines rest ≡ lines text
   pub same : lines_from ns had (i + 1) (lines rest) ≡ lines_from ns [] 1 (lines text)
   pub many : i ≡ length done
   pub heard : (n : ℕ) → among n had ≡ is_some (measure_for done n)
-  pub filled : ss ≡ slots ns done
+  pub filled : ms ≡ measures_for ns done
   pub few : i + length rest ≤ length text
 
-pub kept_none : (text : List ℕ) (ss : List Slot) → ss ≡ slots (slot_numbers ss) [] → LinesKept text (slot_numbers ss) ss text 0
+-- no line yet: no measure
+no_measures : (ns : List ℕ) → replicate (length ns) None ≡ measures_for ns []
+unfolding measure_for
+no_measures [] = refl
+no_measures (n ∷ ns) = ap (λ ms. None ∷ ms) (no_measures ns)
+
+pub kept_none : (text ns : List ℕ) {ms : List (Option ℕ)} → ms ≡ replicate (length ns) None → LinesKept text ns ms text 0
 unfolding among measure_for
-kept_none text ss e = record { done = []; had = []; parted = refl; same = refl; many = refl; heard = λ n. refl; filled = e; few = omega arith }
+kept_none text ns e = record { done = []; had = []; parted = refl; same = refl; many = refl; heard = λ n. refl; filled = e ∙ no_measures ns; few = omega arith }
 
-module _ {text ns : List ℕ} {ss : List Slot} {rest : List ℕ} {i : ℕ} (d : LinesKept text ns ss rest i) where
-  pub kept_numbers : slot_numbers ss ≡ ns
-  kept_numbers = ap slot_numbers d.filled ∙ numbers_slots ns d.done
+module _ {text ns : List ℕ} {ms : List (Option ℕ)} {rest : List ℕ} {i : ℕ} (d : LinesKept text ns ms rest i) where
+  pub kept_length : length ms ≡ length ns
+  kept_length = rw d.filled (length-map ns (measure_for d.done))
 
-  pub kept_length : length ss ≡ length ns
-  kept_length = rw d.filled (length-map ns (slot d.done))
-
-  pub kept_end : length rest < 1 → AllTaken ns (lines text) i ss
+  pub kept_end : length rest < 1 → AllTaken ns (lines text) i ms
   unfolding lines_from lines
   kept_end h = go rest h d.same d.parted
     where
-      go : (bs : List ℕ) → length bs < 1 → lines_from ns d.had (i + 1) (lines bs) ≡ lines_from ns [] 1 (lines text) → d.done ++ lines bs ≡ lines text → AllTaken ns (lines text) i ss
-      go [] l s p = let w : d.done ≡ lines text = sym (append-nil d.done) ∙ p in record { sound = sym s; many = d.many ∙ ap length w; filled = d.filled ∙ ap (slots ns) w }
+      go : (bs : List ℕ) → length bs < 1 → lines_from ns d.had (i + 1) (lines bs) ≡ lines_from ns [] 1 (lines text) → d.done ++ lines bs ≡ lines text → AllTaken ns (lines text) i ms
+      go [] l s p = let w : d.done ≡ lines text = sym (append-nil d.done) ∙ p in record { sound = sym s; many = d.many ∙ ap length w; filled = d.filled ∙ ap (measures_for ns) w }
       go (b ∷ bs) l s p = absurd (omega arith)
 
   module _ (h : 1 ≤ length rest) where
@@ -175,34 +171,27 @@ module _ {text ns : List ℕ} {ss : List Slot} {rest : List ℕ} {i : ℕ} (d : 
       unfolding lines_from
       turned = rw e.behind (sym (rw (step_lines rest h, e.says)) ∙ d.same)
 
-      pub kept_small : line.count ≤ largest_count
-      kept_small = count_small (first_line rest) e.says
-
       pub kept_less : length behind < length rest
       kept_less = rw (e.behind, length-drop) (let z = extent_pos rest h in omega arith)
 
-      pub kept_absent : among line.lift (slot_numbers ss) ≡ false → lines_from ns [] 1 (lines text) ≡ faulty (refusal_of (AboutLift (i + 1)))
-      kept_absent f = let a : among line.lift ns ≡ false = rw kept_numbers at f in sym (rw a at turned)
+      pub kept_absent : among line.lift ns ≡ false → lines_from ns [] 1 (lines text) ≡ faulty (refusal_of (AboutLift (i + 1)))
+      kept_absent a = sym (rw a at turned)
 
-      module _ {k : ℕ} (inside : k < length ss) (g : HoldsAt (λ s. s.number ≡ line.lift) ss k) where
-        named : get_or ns k 0 ≡ line.lift
-        named = rw (← kept_numbers) (number_at ss k ∙ g no_slot)
+      module _ {k : ℕ} (inside : k < length ns) (named : get_or ns k 0 ≡ line.lift) where
+        here : get_or ms k None ≡ measure_for d.done line.lift
+        here = ap (λ xs. get_or xs k None) d.filled ∙ measure_at d.done ns k inside ∙ ap (measure_for d.done) named
 
-        here : get_or ss k no_slot ≡ slot d.done line.lift
-        here = ap (λ xs. get_or xs k no_slot) d.filled ∙ slot_at d.done ns k (omega (arith, kept_length)) ∙ ap (slot d.done) named
-
-        pub kept_had : is_some (get_or ss k no_slot).measure ≡ true → lines_from ns [] 1 (lines text) ≡ faulty (refusal_of (AboutLift (i + 1)))
+        pub kept_had : is_some (get_or ms k None) ≡ true → lines_from ns [] 1 (lines text) ≡ faulty (refusal_of (AboutLift (i + 1)))
         kept_had o =
-            let a : among line.lift d.had ≡ true = d.heard line.lift ∙ ap (λ s. is_some s.measure) (sym here) ∙ o in
+            let a : among line.lift d.had ≡ true = d.heard line.lift ∙ ap is_some (sym here) ∙ o in
             sym (rw (a, and-false (among line.lift ns)) at turned)
 
-        pub kept_turn : RisingAbove 0 ns → is_some (get_or ss k no_slot).measure ≡ false → {m : ℕ} → m ≡ div_ceil line.count 100
-            → LinesKept text ns (set ss k (record { number = (get_or ss k no_slot).number; measure = Some m })) behind (i + 1)
+        pub kept_turn : RisingAbove 0 ns → is_some (get_or ms k None) ≡ false → {m : ℕ} → m ≡ div_ceil line.count 100 → LinesKept text ns (set ms k (Some m)) behind (i + 1)
         kept_turn up o {m} u =
-            let s : is_some (measure_for d.done line.lift) ≡ false = ap (λ s. is_some s.measure) (sym here) ∙ o in
+            let s : is_some (measure_for d.done line.lift) ≡ false = ap is_some (sym here) ∙ o in
             let f : measure_for d.done line.lift ≡ None = no_measure _ s in
             let a : among line.lift d.had ≡ false = d.heard line.lift ∙ s in
-            let b : among line.lift ns ≡ true = present line.lift ns k (omega (arith, kept_length)) named in
+            let b : among line.lift ns ≡ true = present line.lift ns k inside named in
             record {
               done = d.done ++ (first_line rest ∷ []);
               had = line.lift ∷ d.had;
@@ -210,13 +199,13 @@ module _ {text ns : List ℕ} {ss : List Slot} {rest : List ℕ} {i : ℕ} (d : 
               same = rw (b, a) at turned;
               many = omega (arith, d.many, length-append d.done (first_line rest ∷ []));
               heard = heard_turn d.done _ e.says d.had f d.heard;
-              filled = rw (g no_slot, u ∙ rounded line.count) (ap (λ ss. set ss k (record { number = line.lift; measure = Some (hundreds line.count) })) d.filled) ∙ set_slot d.done _ e.says f 0 ns up k (omega (arith, kept_length)) named;
+              filled = rw (u ∙ rounded line.count) (ap (λ ms. set ms k (Some (hundreds line.count))) d.filled) ∙ set_measure d.done _ e.says f 0 ns up k inside named;
               few = omega (arith, d.few, kept_less);
             }
 
--- ---- the lifts with the measures of their slots
+-- ---- the lifts with their measures
 
-pub lifts_slots : (xs : List (List ℕ)) (ls : List Lift) → lifts_with ls (slots (numbers_of ls) xs) ≡ map (measured xs) ls
+pub lifts_measured : (xs : List (List ℕ)) (ls : List Lift) → lifts_with ls (measures_for (numbers_of ls) xs) ≡ map (measured xs) ls
 unfolding lifts_with
-lifts_slots xs [] = refl
-lifts_slots xs (l ∷ ls) = ap₂ ◌∷◌ refl (lifts_slots xs ls)
+lifts_measured xs [] = refl
+lifts_measured xs (l ∷ ls) = ap₂ ◌∷◌ refl (lifts_measured xs ls)
