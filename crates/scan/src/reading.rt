@@ -67,10 +67,16 @@ fn read_words(sheet: &[u32]) -> Result<(), Refusal>
     requires { length sheet.now ≤ longest }
     ensures { reading_of result ≡ reading sheet.now }
 {
-    let (mut s, mut rest) = pass_lifts(State::default(), sheet);
-    while let [word, others @ ..] = rest {
+    let mut s = State::default();
+    let mut rest = sheet;
+    loop {
+        (s, rest) = pass_lifts(s, rest);
+        let [word, others @ ..] = rest else {
+            break;
+        };
         s.judge(*word, sheet.len() - rest.len())?;
-        (s, rest) = pass_lifts(s.next(*word), others);
+        s = s.next(*word);
+        rest = others;
     }
     if s.kind == Sheet::END {
         return Ok(());
