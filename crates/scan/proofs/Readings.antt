@@ -12,6 +12,7 @@ use borrow.Author.Tests.{lt-leb, eq-eqb, ne_eqb}
 use Rattle.sheet.specs.Sheet.{largest_sum, not_counted, kind, payload, place_of, lift_kind, old_kind, new_kind, end_kind}
 use Rattle.sheet.specs.Reading.{ScanState, next_state, may_follow, misplaced, fault, Reading, faulty, sound, unless_fault, read_from, reading}
 use Rattle.reply.specs.Reply.{Numbered, numbered}
+use Rattle.scan.specs.Scan.{Kept}
 
 -- a word's reading, then what follows if it is sound
 abbrev and_then : Reading → Reading → Reading
@@ -41,11 +42,6 @@ sound_lift s a b c f k n o p = (
 
 -- ---- the loop
 
--- the loop's invariant: reading on from the words left in state s reads the sheet, and s has no more lifts than words are behind
-pub record Kept (ws : List ℕ) (s : ScanState) (rest : List ℕ) : Type 0 where
-  pub same : read_from s (length ws - length rest) rest ≡ reading ws
-  pub few : s.lifts + length rest ≤ length ws
-
 -- a word is at most one lift more
 pub one_more : (s : ScanState) (w : ℕ) {t : ScanState} {n : ℕ} → t ≡ next_state s w → s.lifts ≤ n → t.lifts ≤ n + 1
 one_more s w n h = rw n (more (eqb (kind w) lift_kind) h)
@@ -69,15 +65,10 @@ turn {ws} {rest} {s} {w} k j =
 one_turn : {ws rest : List ℕ} {s t : ScanState} {w : ℕ} → Kept ws s (w ∷ rest) → sound ≡ unless_fault (fault s w) (length ws - suc (length rest)) sound → t ≡ next_state s w → Kept ws t rest
 one_turn {s = s} {w = w} k j n = let m : s.lifts ≤ s.lifts = omega arith in record { same = rw n (turn k j); few = omega (arith, one_more s w n m, k.few) }
 
--- the words left begin with one word, or two
+-- the words left begin with a word
 one_word : (rest : List ℕ) → 1 ≤ length rest → rest ≡ get_or rest 0 0 ∷ behind 1 rest
 one_word [] h = absurd (omega arith)
 one_word (w ∷ ws) h = rw (take_rest (w ∷ ws) 1) refl
-
-two_words : (rest : List ℕ) → 2 ≤ length rest → rest ≡ get_or rest 0 0 ∷ get_or rest 1 0 ∷ behind 2 rest
-two_words [] h = absurd (omega arith)
-two_words (w ∷ []) h = absurd (omega arith)
-two_words (w ∷ v ∷ ws) h = rw (take_rest (w ∷ v ∷ ws) 2) refl
 
 module _ {ws : List ℕ} {s : ScanState} where
   module _ {rest : List ℕ} (h : 1 ≤ length rest) (k : Kept ws s rest) where
@@ -94,13 +85,14 @@ module _ {ws : List ℕ} {s : ScanState} where
     pub goes_on : {t : ScanState} → sound ≡ unless_fault (fault s (get_or rest 0 0)) (length ws - length rest) sound → t ≡ next_state s (get_or rest 0 0) → Kept ws t (behind 1 rest)
     goes_on j n = one_turn first (rw here j) n
 
-    -- three turns at once, each by a word that is not faulty
-    pub goes_on_three : {t u v : ScanState} → 2 ≤ length (behind 1 rest)
-        → (fault s (get_or rest 0 0) ≡ 0) × (fault (next_state s (get_or rest 0 0)) (get_or (behind 1 rest) 0 0) ≡ 0) × (fault (next_state (next_state s (get_or rest 0 0)) (get_or (behind 1 rest) 0 0)) (get_or (behind 1 rest) 1 0) ≡ 0)
-        → t ≡ next_state s (get_or rest 0 0) → u ≡ next_state t (get_or (behind 1 rest) 0 0) → v ≡ next_state u (get_or (behind 1 rest) 1 0) → Kept ws v (behind 2 (behind 1 rest))
-    goes_on_three m f p q r =
-        let all : Kept ws s (get_or rest 0 0 ∷ get_or (behind 1 rest) 0 0 ∷ get_or (behind 1 rest) 1 0 ∷ behind 2 (behind 1 rest)) = subst (λ us. Kept ws s (get_or rest 0 0 ∷ us)) (two_words (behind 1 rest) m) first in
-        one_turn (one_turn (one_turn all (rw f.0) p) (rw (p, f.1)) q) (rw (q, p, f.2)) r
+  -- three turns at once, each by a word that is not faulty
+  pub goes_on_three : {rest : List ℕ} {t u v : ScanState} → 3 ≤ length rest → Kept ws s rest
+      → (fault s (get_or rest 0 0) ≡ 0) × (fault (next_state s (get_or rest 0 0)) (get_or rest 1 0) ≡ 0) × (fault (next_state (next_state s (get_or rest 0 0)) (get_or rest 1 0)) (get_or rest 2 0) ≡ 0)
+      → t ≡ next_state s (get_or rest 0 0) → u ≡ next_state t (get_or rest 1 0) → v ≡ next_state u (get_or rest 2 0) → Kept ws v (behind 3 rest)
+  goes_on_three {rest = []} h k f p q r = absurd (omega arith)
+  goes_on_three {rest = a ∷ []} h k f p q r = absurd (omega arith)
+  goes_on_three {rest = a ∷ b ∷ []} h k f p q r = absurd (omega arith)
+  goes_on_three {rest = a ∷ b ∷ c ∷ rest} h k f p q r = rw (take_rest (a ∷ b ∷ c ∷ rest) 3) (one_turn (one_turn (one_turn k (rw f.0) p) (rw (p, f.1)) q) (rw (q, p, f.2)) r)
 
   -- past the last word the kind decides
   last : {rest : List ℕ} → length rest < 1 → Kept ws s rest → cond (eqb s.kind end_kind) sound (faulty (numbered 2 (length ws))) ≡ reading ws

@@ -1,8 +1,8 @@
 // The words of a sheet read one by one, up to the first faulty one.
-ghost use Rattle.std.specs.Prelude.{◌≡◌, true, false, ◌≤◌, ◌<◌, length};
+ghost use Rattle.std.specs.Prelude.{◌≡◌, List, ℕ, ◌+◌, true, false, ◌≤◌, ◌<◌, length};
 ghost use Rattle.sheet.specs.Sheet.{largest_sum, longest, kind as kind_of, place_of};
 ghost use Rattle.sheet.specs.Reading.{next_state as next_of, misplaced as misplaced_of, fault, reading, of_words, reading_of};
-ghost use Rattle.scan.specs.Scan.{state_of};
+ghost use Rattle.scan.specs.Scan.{state_of, Kept};
 
 use crate::faults::{State, follows};
 use reply::Refusal;
@@ -44,7 +44,24 @@ fn is_sound_lift(s: State, lift: u32, old: u32, new: u32) -> bool
     is_counted_place(Sheet::NEW, new)
 }
 
-// The first faulty word of words that are not too many; three sound words of a lift are read in one turn.
+// The state and the words left behind the sound lifts that words begin with, three words a turn.
+#[tactic(auto, using(crate::proofs::Readings::turns))]
+fn pass_lifts<'a>(mut s: State, mut rest: &'a [u32]) -> (State, &'a [u32])
+    requires few { s.lifts + length rest.now ≤ longest }
+    ensures shorter { length result.1.now ≤ length rest.now }
+    ensures kept { (ws : List ℕ) → Kept ws (state_of s) rest.now → Kept ws (state_of result.0) result.1.now }
+{
+    while let [lift, old, new, others @ ..] = rest {
+        if !is_sound_lift(s, *lift, *old, *new) {
+            break;
+        }
+        s = s.next(*lift).next(*old).next(*new);
+        rest = others;
+    }
+    (s, rest)
+}
+
+// The first faulty word of words that are not too many: sound lifts are passed over, other words judged one by one.
 #[tactic(auto, using(crate::proofs::Readings::turns))]
 fn read_words(sheet: &[u32]) -> Result<(), Refusal>
     requires { length sheet.now ≤ longest }
@@ -52,18 +69,14 @@ fn read_words(sheet: &[u32]) -> Result<(), Refusal>
 {
     let mut s = State::default();
     let mut rest = sheet;
-    while let [word, others @ ..] = rest {
-        rest = match others {
-            [old, new, behind @ ..] if is_sound_lift(s, *word, *old, *new) => {
-                s = s.next(*word).next(*old).next(*new);
-                behind
-            }
-            _ => {
-                s.judge(*word, sheet.len() - rest.len())?;
-                s = s.next(*word);
-                others
-            }
+    loop {
+        (s, rest) = pass_lifts(s, rest);
+        let [word, others @ ..] = rest else {
+            break;
         };
+        s.judge(*word, sheet.len() - rest.len())?;
+        s = s.next(*word);
+        rest = others;
     }
     if s.kind == Sheet::END {
         return Ok(());

@@ -1,7 +1,6 @@
 -- `scan::read_words` meets its contract: what is left to read gives the answer, and there are no more lifts than words. Assumes nothing.
 use lib.ListN.{length}
-use Rattle.scan.specs.Scan.{state_of}
-use Rattle.scan.proofs.Readings.{Kept}
+use Rattle.scan.specs.Scan.{state_of, Kept}
 use Rattle.scan.proofs.reading.read_words.Given as goal
 
 abbrev pub invariant-loop-rest : goal.invariant-loop-rest
