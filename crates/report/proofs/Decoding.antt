@@ -4,7 +4,7 @@ use mathlib.Core.Path.{◌≡◌, refl, sym, ap, ◌∙◌}
 use mathlib.Core.List.{List, [], ◌∷◌, ◌++◌, map}
 use native.Mathlib.Nat.{pow-suc, mul_assoc}
 use native.Mathlib.Omega.{arith}
-use lib.ListN.{length, get_or, take, drop, length-take, length-map}
+use lib.ListN.{length, get_or, take, length-take, length-map}
 use lib.Seq.{length-take-le, take_all, take-suc, take-take}
 use mir.Syntax.{w32, w64}
 use Rattle.std.proofs.lemmas.List.{take-map, take_min}
