@@ -107,9 +107,8 @@ fn print_report(
     sheet: &Contents<SHEET_BYTES>,
     words: &Contents<WORDS_BYTES>,
 ) {
-    let mut text = [0u8; report::TEXT_ROOM];
-    let n = report::report(sheet.kept(), sheet.size, words.kept(), &mut text);
-    print(rt, &text[..n], sheet, words);
+    let text = report::report(sheet.kept(), sheet.size, words.kept());
+    print(rt, text.as_bytes(), sheet, words);
 }
 
 // Prints a text that must be that of what was read, and of the whole files.

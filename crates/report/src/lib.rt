@@ -1,13 +1,13 @@
 // The printed text, from the bytes of both files ("The program" of document 01).
 #![tactic(auto)]
 
-ghost use Rattle.std.specs.Prelude.{◌≡◌, ◌/◌, ◌≤◌, length, take};
+ghost use Rattle.std.specs.Prelude.{◌≡◌, ◌/◌, ◌≤◌, length};
 ghost use Rattle.sheet.specs.Sheet.{longest};
 ghost use Rattle.report.specs.Report.{sheet_words, random_words, text_of, report as report_of};
 
 use reply::Refusal;
 use sheet::Sheet;
-use text::Text;
+pub use text::Text;
 use words::decode;
 
 mod text;
@@ -20,7 +20,7 @@ const MOST_WORDS: usize = 4096;
 pub const WORDS_BYTES: usize = 8 * MOST_WORDS;
 
 // Room for every text.
-pub const TEXT_ROOM: usize = 2048;
+const TEXT_ROOM: usize = 2048;
 
 // The text of a sheet's bytes, with the words of the other file.
 fn chosen_text(sheet: &[u8], words: &[u8]) -> Text
@@ -38,8 +38,8 @@ fn chosen_text(sheet: &[u8], words: &[u8]) -> Text
     }
 }
 
-// The whole text, from what was read of the sheet and its true length in bytes, and from what was read of the words.
-fn whole_text(sheet: &[u8], size: usize, words: &[u8]) -> Text
+// The whole text, from what was read of the sheet, its true length in bytes, and what was read of the words.
+pub fn report(sheet: &[u8], size: usize, words: &[u8]) -> Text
     ensures { result ≡ report_of sheet.now size words.now }
 {
     if size % 4 != 0 {
@@ -50,15 +50,4 @@ fn whole_text(sheet: &[u8], size: usize, words: &[u8]) -> Text
     }
     let kept = size.min(sheet.len());
     chosen_text(&sheet[..kept], words)
-}
-
-// Writes the whole text, from what was read of the sheet, its true length in bytes, and what was read of the words; answers how long it is.
-pub fn report(sheet: &[u8], size: usize, words: &[u8], text: &mut [u8; TEXT_ROOM]) -> usize
-    ensures is { take result text.new ≡ report_of sheet.now size words.now }
-    ensures fits { result ≤ length text.new }
-{
-    let whole = whole_text(sheet, size, words);
-    let written = whole.as_bytes();
-    text[..written.len()].copy_from_slice(written);
-    written.len()
 }

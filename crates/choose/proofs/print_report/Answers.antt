@@ -1,6 +1,7 @@
 -- `print` is handed the text of the bytes that were kept: what `report` ensures.
+use mathlib.Core.Path.{◌∙◌}
 use Rattle.choose.proofs.Prints.{printed}
 use Rattle.choose.proofs.print_report.Goals as goal
 
 pub print-requires : goal.print-requires
-print-requires g c = printed c.args.sheet.now c.args.words.now c.kept.ensures.room c.kept-2.ensures.room (rw (c.kept.ensures.is, c.kept-2.ensures.is) at c.report-n.ensures.is)
+print-requires g c = printed c.args.sheet.now c.args.words.now c.kept.ensures.room c.kept-2.ensures.room (rw (c.kept.ensures.is, c.kept-2.ensures.is) at (c.as_bytes.ensures ∙ c.report-text.ensures))

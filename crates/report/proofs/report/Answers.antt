@@ -1,7 +1,7 @@
--- `report::whole_text` meets its contract: by the three cases of the length.
+-- `report::report` meets its contract: by the three cases of the length.
 use mathlib.Core.Path.{sym, ◌∙◌}
 use Rattle.report.proofs.Reports.{report_odd, report_long, report_text}
-use Rattle.report.proofs.whole_text.Goals as goal
+use Rattle.report.proofs.report.Goals as goal
 
 pub returns-then-size-ne0 : goal.returns-then-size-ne0
 returns-then-size-ne0 c = c.refused.ensures ∙ sym (report_odd _ _ _ c.if-size-ne0.true)
