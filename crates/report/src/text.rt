@@ -130,7 +130,8 @@ impl Text {
 
     // What is written.
     pub fn as_bytes(&self) -> &[u8]
-        ensures { result.now ≡ self.now }
+        ensures is { result.now ≡ self.now }
+        ensures fits { length result.now ≤ text_room }
     {
         &self.bytes[..self.len]
     }

@@ -3,3 +3,4 @@ pub mod Pairing
 pub mod Placing
 pub mod Starting
 pub mod Seating
+pub mod Numbering
