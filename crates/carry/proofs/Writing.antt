@@ -1,14 +1,14 @@
 -- A walk over the lifts of a sheet that writes those of the next quarter: what is written and what the lifts left will give are the whole.
-use Prim.Native.Nat.{ℕ, ◌+◌, ◌^◌, ◌≤◌, ◌<◌}
+use Prim.Native.Nat.{ℕ, ◌+◌, ◌-◌, ◌^◌, ◌≤◌, ◌<◌}
 use mathlib.Core.Path.{◌≡◌, refl, sym, ap, ◌∙◌}
 use mathlib.Core.Bool.{Bool, true, false}
 use mathlib.Core.List.{List, [], ◌∷◌, ◌++◌, append_assoc}
 use native.Mathlib.Omega.{arith}
 use lib.ListN.{length, get_or, set, take, drop, length-append, length-drop, length-map}
-use lib.Seq.{sets-eq, take_at, drop_at, drop-drop}
+use lib.Seq.{sets-eq, length-take-le, take_at, drop_at, drop-drop}
 use borrow.Author.Tests.{eq-eqb, ne_eqb}
 use borrow.Rule.Slice.PartMut.{put_mid}
-use Rattle.sheet.specs.Sheet.{most_lifts, most_rounds, end_kind, Lift, lifts, word, lift_words, words_then, sheet_of}
+use Rattle.sheet.specs.Sheet.{most_lifts, most_rounds, held_kind, end_kind, Lift, lifts, word, lift_words, words_then, sheet_of}
 use Rattle.sheet.specs.Reading.{Legible}
 use Rattle.sheet.specs.Lift.{entry_of}
 use Rattle.sheet.specs.Law.{AllWellFormed, LiftWellFormed, WellFormed}
@@ -20,7 +20,6 @@ use Rattle.tally.proofs.Tables.{tabulate_at}
 use Rattle.sheet.proofs.Trips.{read_theorem}
 use Rattle.scan.specs.Lifts.{FirstLift}
 use Rattle.std.specs.Prelude.{Option, None}
-use Rattle.std.specs.Int.{from_bool}
 use Rattle.selection.specs.declared.Pick.{Pick}
 use Rattle.carry.specs.Next.{remaining, carried, carried_on, has_number, in_table}
 use Rattle.carry.proofs.Rounds.{remaining_counts, remaining_few}
@@ -37,25 +36,33 @@ remaining_fit {ws} l = omega (arith, remaining_few (lifts ws), (read_theorem ws 
 
 -- ---- the words of a lift
 
-module _ (table : List (Option Pick)) (l : Lift) {e : Entry} (q : e ≡ entry_of l) {b : Bool} (eb : b ≡ has_number (get_or table e.to None) e.number) {n : ℕ} (en : n ≡ from_bool b) where
+module _ (table : List (Option Pick)) (l : Lift) {e : Entry} (q : e ≡ entry_of l) {b : Bool} (eb : b ≡ has_number (get_or table e.to None) e.number) where
   is_in : b ≡ in_table table l
   is_in = eb ∙ ap (λ x. has_number (get_or table x.to None) x.number) q
 
-  -- without the held word where it isn't the choice, its words are those of the lift carried on
-  pub taken : {ws : List ℕ} → ((m : Lift) → e ≡ entry_of m → ws ≡ lift_words (carried (λ t. true) m)) → take (3 + n) ws ≡ lift_words (carried (in_table table) l)
-  taken h = rw (h l q, en) (go b is_in)
-    where
-      go : (t : Bool) → t ≡ in_table table l → take (3 + from_bool t) (lift_words (carried (λ t. true) l)) ≡ lift_words (carried (in_table table) l)
-      go true i = rw (← i) refl
-      go false i = rw (← i) refl
+  -- where it isn't the choice, its words are those without the held word
+  pub words_not : b ≡ false → lift_words (carried (λ t. false) l) ≡ lift_words (carried (in_table table) l)
+  words_not h = let i : in_table table l ≡ false = sym is_in ∙ h in rw i refl
 
-  -- so many
-  pub taken_length : length (lift_words (carried (in_table table) l)) ≡ 3 + n
-  taken_length = rw en (go b is_in)
-    where
-      go : (t : Bool) → t ≡ in_table table l → length (lift_words (carried (in_table table) l)) ≡ 3 + from_bool t
-      go true i = rw (← i) refl
-      go false i = rw (← i) refl
+  -- and where it is, the held word is behind them
+  pub words_held : b ≡ true → lift_words (carried (λ t. false) l) ++ (word held_kind 0 ∷ []) ≡ lift_words (carried (in_table table) l)
+  words_held h = let i : in_table table l ≡ true = sym is_in ∙ h in rw i refl
+
+-- three numbers stored in a part of three
+three_set : (xs ws : List ℕ) → length xs ≡ 3 → length ws ≡ 3 → set (set (set xs 0 (get_or ws 0 0)) 1 (get_or ws 1 0)) 2 (get_or ws 2 0) ≡ ws
+three_set (x ∷ y ∷ z ∷ []) (a ∷ b ∷ c ∷ []) h k = refl
+three_set [] ws h k = absurd (omega arith)
+three_set (x ∷ []) ws h k = absurd (omega arith)
+three_set (x ∷ y ∷ []) ws h k = absurd (omega arith)
+three_set (x ∷ y ∷ z ∷ w ∷ xs) ws h k = absurd (omega arith)
+three_set (x ∷ y ∷ z ∷ []) [] h k = absurd (omega arith)
+three_set (x ∷ y ∷ z ∷ []) (a ∷ []) h k = absurd (omega arith)
+three_set (x ∷ y ∷ z ∷ []) (a ∷ b ∷ []) h k = absurd (omega arith)
+three_set (x ∷ y ∷ z ∷ []) (a ∷ b ∷ c ∷ d ∷ ws) h k = absurd (omega arith)
+
+-- three words stored from position k on
+abbrev pub stored : ℕ → List ℕ → List ℕ → List ℕ
+stored k next ws = put_mid k (k + 3 - k) next (set (set (set (take (k + 3 - k) (drop k next)) 0 (get_or ws 0 0)) 1 (get_or ws 1 0)) 2 (get_or ws 2 0))
 
 -- ---- words behind those that are written
 
@@ -63,6 +70,19 @@ module _ (table : List (Option Pick)) (l : Lift) {e : Entry} (q : e ≡ entry_of
 onto_more : (done ws room : List ℕ) {k : ℕ} → length done ≡ k → put_mid k (length ws) (onto done room) ws ≡ onto (done ++ ws) room
 onto_more done ws room {k} e =
     rw (take_at done (drop (length done) room) k e, drop_at done (drop (length done) room) k e, drop-drop (length ws) (length done) room, length-append done ws, append_assoc)
+
+-- three words more
+onto_three : (done ws room : List ℕ) {k : ℕ} → length done ≡ k → length ws ≡ 3 → k + 3 ≤ length (onto done room) → stored k (onto done room) ws ≡ onto (done ++ ws) room
+onto_three done ws room {k} e n h =
+    let span : k + 3 - k ≡ 3 = omega arith in
+    let next : List ℕ = onto done room in
+    let long : length (take 3 (drop k next)) ≡ 3 = length-take-le 3 (drop k next) (rw length-drop (omega arith)) in
+    rw (span, three_set (take 3 (drop k next)) ws long n) (rw n at (onto_more done ws room e))
+
+-- one word more
+onto_one : (done room : List ℕ) (w : ℕ) {k : ℕ} → length done ≡ k → k < length (onto done room) → set (onto done room) k w ≡ onto (done ++ (w ∷ [])) room
+onto_one done room w {k} e h =
+    sets-eq (w ∷ []) (onto done room) k (omega arith) ∙ rw (append_assoc, drop-drop 1 k (onto done room)) refl ∙ onto_more done (w ∷ []) room e
 
 -- ---- the walk
 
@@ -119,22 +139,48 @@ module _ (held : Lift → Bool) where
       unfolding remaining words_then
       ahead_is = rw (ne_eqb l.new.round 0 some) at d.ahead
 
-      -- the others' have room
-      pub words_fit : length (sheet_of (carried_on held ls)) ≤ length room → k + length (lift_words (carried held l)) ≤ length next
-      words_fit fits =
-          let ws : List ℕ = lift_words (carried held l) in
-          omega (arith, same_long d fits, d.long, length-append d.done (ws ++ words_then (carried_on held rest) (end_of ls)), length-append ws (words_then (carried_on held rest) (end_of ls)), ap length ahead_is)
-
-      pub writing_turn : {j m : ℕ} {ws : List ℕ} → ws ≡ lift_words (carried held l) → length (lift_words (carried held l)) ≡ j → m ≡ j → Writing ls rest room (put_mid k m next ws) (k + j)
-      writing_turn {j} {m} {ws} e n em =
-          rw (e, em, ← n) (record {
+      next_turn : {next' : List ℕ} {k' : ℕ} → next' ≡ onto (d.done ++ lift_words (carried held l)) room → k' ≡ k + length (lift_words (carried held l)) → Writing ls rest room next' k'
+      next_turn e ek =
+          record {
             before = l.number;
             listed = others_well_formed;
             done = d.done ++ lift_words (carried held l);
-            is = rw d.is (onto_more d.done (lift_words (carried held l)) room d.long);
-            long = omega (arith, length-append d.done (lift_words (carried held l)), d.long);
+            is = e;
+            long = omega (arith, length-append d.done (lift_words (carried held l)), d.long, ek);
             ahead = append_assoc d.done (lift_words (carried held l)) _ ∙ ahead_is;
-          })
+          }
+
+      module _ (fits : length (sheet_of (carried_on held ls)) ≤ length room) where
+        words_fit : k + length (lift_words (carried held l)) ≤ length next
+        words_fit =
+            let ws : List ℕ = lift_words (carried held l) in
+            omega (arith, same_long d fits, d.long, length-append d.done (ws ++ words_then (carried_on held rest) (end_of ls)), length-append ws (words_then (carried_on held rest) (end_of ls)), ap length ahead_is)
+
+        -- three words have room
+        pub three_fit : k + 3 ≤ length next
+        three_fit = omega (arith, words_fit)
+
+        module _ {ws : List ℕ} (e : ws ≡ lift_words (carried (λ t. false) l)) where
+          stored_is : stored k next ws ≡ onto (d.done ++ ws) room
+          stored_is = let h : k + 3 ≤ length (onto d.done room) = rw d.is at three_fit in rw d.is (onto_three d.done ws room d.long (ap length e) h)
+
+          -- the words of a lift that isn't the choice
+          pub writing_three : lift_words (carried (λ t. false) l) ≡ lift_words (carried held l) → Writing ls rest room (stored k next ws) (k + 3)
+          writing_three n = next_turn (stored_is ∙ ap (λ us. onto (d.done ++ us) room) (e ∙ n)) (omega (arith, ap length n))
+
+          module _ (n : lift_words (carried (λ t. false) l) ++ (word held_kind 0 ∷ []) ≡ lift_words (carried held l)) where
+            -- the held word has room
+            pub four_fit : k + 3 < length (stored k next ws)
+            four_fit = rw stored_is (omega (arith, words_fit, ap length n, d.long, ap length d.is, ap length e, length-append d.done ws, length-append (d.done ++ ws) (drop (length (d.done ++ ws)) room), length-append d.done (drop (length d.done) room), length-drop (length d.done) room, length-drop (length (d.done ++ ws)) room))
+
+            -- the words of the choice
+            pub writing_four : Writing ls rest room (set (stored k next ws) (k + 3) (word held_kind 0)) (k + 3 + 1)
+            writing_four =
+                let p : length (d.done ++ ws) ≡ k + 3 = omega (arith, length-append d.done ws, d.long, ap length e) in
+                let h : k + 3 < length (onto (d.done ++ ws) room) = rw stored_is at four_fit in
+                next_turn
+                (rw stored_is (onto_one (d.done ++ ws) room (word held_kind 0) p h ∙ ap (λ us. onto us room) (append_assoc d.done ws (word held_kind 0 ∷ []) ∙ ap (λ us. d.done ++ us) (ap (λ us. us ++ (word held_kind 0 ∷ [])) e ∙ n))))
+                (omega (arith, ap length n))
 
   -- the end word is all that is left
   module _ {ls : List Lift} {room next : List ℕ} {k : ℕ} (d : Writing ls [] room next k) where
@@ -148,6 +194,5 @@ module _ (held : Lift → Bool) where
 
       pub writing_end : {n : ℕ} → n ≡ length (remaining ls) → set next k (word end_kind n) ≡ onto (sheet_of (carried_on held ls)) room
       writing_end {n} e =
-          let p : k + 1 ≤ length next = omega (arith, end_fits) in
-          let q : set next k (word end_kind n) ≡ put_mid k 1 next (word end_kind n ∷ []) = sets-eq (word end_kind n ∷ []) next k p ∙ rw (append_assoc, drop-drop 1 k next) refl in
-          q ∙ rw (← end_left, ← e, d.is) (onto_more d.done (word end_kind n ∷ []) room d.long)
+          let h : k < length (onto d.done room) = rw d.is at end_fits in
+          rw (← end_left, ← e, d.is) (onto_one d.done room (word end_kind n) d.long h)

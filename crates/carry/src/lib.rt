@@ -1,7 +1,7 @@
 // Next quarter's sheet, written from a sheet and its choices (Card 3 of document 02).
 #![tactic(auto)]
 
-ghost use Rattle.std.specs.Prelude.{◌≡◌, ◌^◌, ◌≤◌, ◌<◌, true, length, get_or, None};
+ghost use Rattle.std.specs.Prelude.{◌≡◌, ◌^◌, ◌≤◌, ◌<◌, false, length, get_or, None};
 ghost use Rattle.sheet.specs.Sheet.{most_rounds, Lift, lifts as lifts_of_sheet, place_word, lift_words, sheet_of};
 ghost use Rattle.sheet.specs.Reading.{Legible};
 ghost use Rattle.sheet.specs.Lift.{entry_of};
@@ -32,17 +32,16 @@ fn place_word(kind: u32, round: usize, measure: u64) -> u32
     Sheet::word(kind, Sheet::place(round as u32, measure as u32))
 }
 
-// The words of a lift in the next quarter; the last marks it as held.
-fn next_words(l: Entry) -> [u32; 4]
+// The words of a lift in the next quarter, but for the one that marks it as held.
+fn next_words(l: Entry) -> [u32; 3]
     requires number_bound { l.number < 2 ^ 28 }
     requires writable { WritablePlace (record { round = l.to; measure = l.new }) }
-    ensures { (lift : Lift) → l ≡ entry_of lift → result ≡ lift_words (carried (λ m. true) lift) }
+    ensures { (lift : Lift) → l ≡ entry_of lift → result ≡ lift_words (carried (λ m. false) lift) }
 {
     [
         Sheet::word(Sheet::LIFT, l.number),
         place_word(Sheet::OLD, l.to, l.new),
         place_word(Sheet::NEW, l.to, Sheet::NOT_COUNTED),
-        Sheet::HELD_WORD,
     ]
 }
 
@@ -64,10 +63,16 @@ pub fn write(sheet: &[u32], chosen: &[Option<Pick>; Sheet::TABLE], lifts: usize,
     let mut at = 0;
     for l in scan::lifts(sheet) {
         if l.to != 0 {
-            let words = next_words(l);
-            let len = 3 + usize::from(is_chosen(chosen, l));
-            next[at..at + len].copy_from_slice(&words[..len]);
-            at += len;
+            let [lift, old, new] = next_words(l);
+            let words = &mut next[at..at + 3];
+            words[0] = lift;
+            words[1] = old;
+            words[2] = new;
+            at += 3;
+            if is_chosen(chosen, l) {
+                next[at] = Sheet::HELD_WORD;
+                at += 1;
+            }
         }
     }
     next[at] = Sheet::word(Sheet::END, lifts as u32);
