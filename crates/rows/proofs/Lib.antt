@@ -3,4 +3,3 @@ pub mod Pairing
 pub mod Placing
 pub mod Starting
 pub mod Seating
-pub mod Numbering
