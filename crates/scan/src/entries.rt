@@ -2,10 +2,9 @@
 ghost use Rattle.std.specs.Prelude.{◌≡◌, ◌+◌, ◌<◌, length, drop};
 ghost use Rattle.probability.specs.Sum.{indicator};
 ghost use Rattle.sheet.specs.Sheet.{lift_of, lifts};
-ghost use Rattle.sheet.specs.Reading.{Legible};
 ghost use Rattle.sheet.specs.Lift.{filled_in as filled_in_of, MarkSound, entry_of};
 
-use sheet::{Entry, Sheet};
+use sheet::{Entry, LegibleSheet, Sheet};
 use std::marker::Model;
 
 // The new measure that counts, from both measures as written.
@@ -46,11 +45,11 @@ pub fn marks(sheet: &[u32], i: usize) -> usize
 }
 
 // How many lifts there are, by the end word.
-pub fn size(sheet: &[u32]) -> usize
-    requires { Legible sheet.now }
-    ensures { result ≡ length (lifts sheet.now) }
+pub fn size(sheet: LegibleSheet<'_>) -> usize
+    ensures { result ≡ length (lifts sheet.entry.words.now) }
 {
-    Sheet::payload(sheet[sheet.len() - 1]) as usize
+    let words = sheet.words;
+    Sheet::payload(words[words.len() - 1]) as usize
 }
 
 // The words behind those of a held lift: a rare way, kept out of the loop, so that the walk goes on before the word is read that says whether a lift is held.
@@ -114,9 +113,8 @@ impl<'a> Iterator for Walk<'a> {
 }
 
 // The lifts of a legible sheet.
-pub fn lifts<'a>(sheet: &'a [u32]) -> Walk<'a>
-    requires { Legible sheet.now }
-    ensures { result ≡ lifts sheet.now }
+pub fn lifts(sheet: LegibleSheet<'_>) -> Walk<'_>
+    ensures { result ≡ lifts sheet.entry.words.now }
 {
-    Walk { words: sheet }
+    Walk { words: sheet.words }
 }

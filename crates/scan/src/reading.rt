@@ -1,12 +1,12 @@
 // The words of a sheet read one by one, up to the first faulty one.
-ghost use Rattle.std.specs.Prelude.{◌≡◌, List, ℕ, ◌+◌, true, false, ◌≤◌, ◌<◌, length};
+ghost use Rattle.std.specs.Prelude.{◌≡◌, List, ℕ, ◌+◌, true, false, ◌≤◌, ◌<◌, length, IfOk};
 ghost use Rattle.sheet.specs.Sheet.{largest_sum, longest, kind as kind_of, place_of};
 ghost use Rattle.sheet.specs.Reading.{next_state as next_of, misplaced as misplaced_of, fault, reading, of_words, reading_of};
 ghost use Rattle.scan.specs.Scan.{state_of, Kept};
 
 use crate::faults::{State, follows};
 use reply::Refusal;
-use sheet::Sheet;
+use sheet::{LegibleSheet, Sheet};
 
 // Whether a word is of a kind and holds a place whose measure is counted: of a round from 1 to 100, or round 0 with measure 0.
 fn is_counted_place(kind: u32, word: u32) -> bool
@@ -84,13 +84,15 @@ fn read_words(sheet: &[u32]) -> Result<(), Refusal>
     Err(Refusal::Sequence(sheet.len()))
 }
 
-// The answer to words alone: one of the refusals 1 to 6 and 16, or sound.
-pub fn read(sheet: &[u32]) -> Result<(), Refusal>
-    ensures { reading_of result ≡ of_words sheet.now }
+// The legible sheet of words, or the first of the refusals 1 to 6 and 16 that applies to them.
+pub fn read(words: &[u32]) -> Result<LegibleSheet<'_>, Refusal>
+    ensures reading { reading_of result ≡ of_words words.now }
+    ensures same { IfOk result (λ s. s.words ≡ words.entry) }
 {
-    let n = sheet.len();
+    let n = words.len();
     if n == 0 || Sheet::LONGEST < n {
         return Err(Refusal::Length(n));
     }
-    read_words(sheet)
+    read_words(words)?;
+    Ok(LegibleSheet { words })
 }

@@ -123,6 +123,6 @@ pub record Legible (ws : List ℕ) : Type 0 where
 -- ---- the code's answer
 
 -- the reading that an answer to words alone stands for
-abbrev pub reading_of : Result (Unit {0}) Refusal → Reading
+abbrev pub reading_of : {A : Type 0} → Result A Refusal → Reading
 reading_of (Err x) = faulty (refusal_of x)
 reading_of (Ok _) = sound

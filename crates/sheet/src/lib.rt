@@ -3,6 +3,7 @@
 
 ghost use Rattle.std.specs.Prelude.{◌≡◌, ◌+◌, ◌*◌, ◌^◌, ◌<◌};
 ghost use Rattle.sheet.specs.Sheet.{kind as kind_of, payload as payload_of, place_of, word as word_of};
+ghost use Rattle.sheet.specs.Reading.{Legible};
 
 // A sheet that fits: how many lifts and how many new rounds it has.
 #[derive(Clone, Copy, Debug, PartialEq, Eq)]
@@ -102,4 +103,11 @@ pub struct Entry {
     pub to: usize,
     pub new: u64,
     pub held: bool,
+}
+
+// The words of a legible sheet.
+#[derive(Clone, Copy)]
+pub struct LegibleSheet<'a> {
+    pub words: &'a [u32],
+    pub ghost legible: { Legible words.now },
 }

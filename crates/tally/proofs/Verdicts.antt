@@ -3,7 +3,7 @@ use Prim.Native.Nat.{ℕ, zero, suc, ◌+◌, ◌≤◌}
 use mathlib.Core.Path.{◌≡◌, refl, sym, ap, ap₂, subst, ◌∙◌}
 use mathlib.Core.Bool.{Bool, true, false, cond, ◌&&◌}
 use mathlib.Core.List.{List, [], ◌∷◌, map}
-use Rattle.std.specs.Prelude.{Option, Some, None, Ok}
+use Rattle.std.specs.Prelude.{Option, Some, None}
 use native.Mathlib.Omega.{arith}
 use lib.Dec.{leb, ltb}
 use lib.Count.{ones}
@@ -16,10 +16,10 @@ use Rattle.sheet.specs.Sheet.{most_rounds, longest, Lift, lifts, sheet_of}
 use Rattle.reply.specs.Reply.{Numbered, numbered}
 use Rattle.sheet.specs.Reading.{Reading, faulty, sound, of_words, Legible}
 use Rattle.tally.specs.Rounds.{rounds, lift_count, in_use}
-use Rattle.tally.specs.Verdict.{Verdict, refused, fits, not_one_held, oversize, zero_sum, too_many_donors, first_round, first_refusal, crowded, nothing_more, of_rounds, unless_faulty, verdict_by, verdict, verdict_of}
+use Rattle.tally.specs.Verdict.{Verdict, refused, fits, not_one_held, oversize, zero_sum, too_many_donors, first_round, first_refusal, crowded, nothing_more, of_rounds, unless_faulty, verdict_by, verdict}
 use Rattle.reply.specs.Refusal.{refusal_of}
 use Rattle.tally.specs.Tables.{tabulate, table, old_round, new_round, Tabled, found_first}
-use Rattle.tally.specs.Law.{Nowhere, FitBy, Fit, FittingBy, DecidedTheorem, FitsWithTables}
+use Rattle.tally.specs.Law.{Nowhere, FitBy, Fit, FittingBy, Fitting, DecidedTheorem}
 use Rattle.sheet.specs.Lift.{Old, New}
 use Rattle.tally.specs.declared.OldRound.{OldRound}
 use Rattle.tally.specs.declared.NewRound.{NewRound}
@@ -27,7 +27,6 @@ use Rattle.tally.specs.declared.Tallies.{Tallies}
 use Rattle.tally.proofs.Adding.{old_none, new_none}
 use Rattle.reply.specs.declared.Refusal.{Refusal}
 use Rattle.reply.specs.declared.Refusal.TheVariants.{TooManyDonors}
-use Rattle.tally.specs.declared.Examined.{Examined}
 use Rattle.tally.proofs.Tables.{tabulate_at}
 use Rattle.tally.proofs.Sending.{donors_count}
 use Rattle.tally.proofs.Numbers.{Above, above}
@@ -230,18 +229,23 @@ behind_nine refuses ws =
 pub still_refused : (ws : List ℕ) (x : Refusal) → refused (refusal_of x) ≡ verdict_by nothing_more ws → refused (refusal_of x) ≡ verdict ws
 still_refused ws x q = ap (behind (crowded (lifts ws))) q ∙ behind_nine crowded ws
 
-module _ {ws : List ℕ} {e : Examined} (a : FitsWithTables ws e) where
-  behind_answer : behind (crowded (lifts ws)) (verdict_of (Ok e.sheet)) ≡ verdict ws
-  behind_answer = ap (behind (crowded (lifts ws))) a.verdict ∙ behind_nine crowded ws
+-- a sheet that fits up to 9, with its tables
+module _ (ws : List ℕ) {n k : ℕ} (a : fits n k ≡ verdict_by nothing_more ws) {t : Tallies} (d : Tabled (lifts ws) t) where
+  behind_answer : first_refusal (crowded (lifts ws)) (fits n k) ≡ verdict ws
+  behind_answer = ap (behind (crowded (lifts ws))) a ∙ behind_nine crowded ws
 
-  module _ {f : Option ℕ} (q : f ≡ found_first (rounds (λ r. many (get_or e.tallies.new r new_none)))) where
+  module _ {f : Option ℕ} (q : f ≡ found_first (rounds (λ r. many (get_or t.new r new_none)))) where
     found_crowded : f ≡ found_first (rounds (too_many_donors (lifts ws)))
     found_crowded =
-        let x = ((decided nothing_more ws).only _ _ (sym a.verdict)).0 in
-        q ∙ new_tested many a.tables ∙ ap found_first (crowded_rounds ws x.legible)
+        let x = ((decided nothing_more ws).only _ _ (sym a)).0 in
+        q ∙ new_tested many d ∙ ap found_first (crowded_rounds ws x.legible)
 
     pub at_too_many_donors : {r : ℕ} → f ≡ Some r → refused (numbered 10 r) ≡ verdict ws
     at_too_many_donors g = met 10 _ _ (sym g ∙ found_crowded) ∙ ten (rounds (too_many_donors (lifts ws))) _ ∙ behind_answer
 
-    pub still_fits : f ≡ None → verdict_of (Ok e.sheet) ≡ verdict ws
+    pub still_fits : f ≡ None → fits n k ≡ verdict ws
     still_fits g = unmet 10 _ _ (sym g ∙ found_crowded) ∙ ten (rounds (too_many_donors (lifts ws))) _ ∙ behind_answer
+
+-- a sheet that the verdict fits fits
+pub judged_fits : (ws : List ℕ) {n k : ℕ} → fits n k ≡ verdict ws → Fitting ws
+judged_fits ws e = ((decided crowded ws).only _ _ (sym e)).0

@@ -1,5 +1,5 @@
--- Which lifts and which sheets fit, and what is proved of the verdict and of the answer with the tables.
-use Rattle.std.specs.Prelude.{ℕ, ◌≤◌, ◌<◌, ◌≡◌, Bool, false, List, [], length, Result, Ok, Err}
+-- Which lifts and which sheets fit, and what is proved of the verdict.
+use Rattle.std.specs.Prelude.{ℕ, ◌≤◌, ◌<◌, ◌≡◌, Bool, false, List, [], length}
 use Rattle.reply.specs.Reply.{Numbered}
 use Rattle.reply.specs.declared.Refusal.{Refusal}
 use Rattle.sheet.specs.Sheet.{most_rounds, Lift, lifts}
@@ -7,9 +7,7 @@ use Rattle.sheet.specs.Reading.{Legible}
 use Rattle.sheet.specs.Law.{WellFormed}
 use Rattle.sheet.specs.Lift.{Old, New}
 use Rattle.tally.specs.Rounds.{in_use}
-use Rattle.tally.specs.Verdict.{refused, fits, not_one_held, oversize, zero_sum, crowded, nothing_more, verdict_by, verdict_of}
-use Rattle.tally.specs.Tables.{Tabled}
-use Rattle.tally.specs.declared.Examined.{Examined}
+use Rattle.tally.specs.Verdict.{refused, fits, not_one_held, oversize, zero_sum, crowded, verdict_by}
 
 -- ---- fitting
 
@@ -53,15 +51,3 @@ pub record Decided (refuses : List Lift → List Refusal) (ws : List ℕ) : Type
 
 abbrev pub DecidedTheorem : Type 0
 DecidedTheorem = (refuses : List Lift → List Refusal) (ws : List ℕ) → Decided refuses ws
-
--- ---- the answer with the tables
-
--- a sheet that fits with nothing behind 9: the verdict says so, and the tables are those of its lifts
-pub record FitsWithTables (ws : List ℕ) (e : Examined) : Type 0 where
-  pub verdict : verdict_of (Ok e.sheet) ≡ verdict_by nothing_more ws
-  pub tables : Tabled (lifts ws) e.tallies
-
--- the answer to a sheet with nothing behind 9: the verdict and, if the sheet fits, its tables
-abbrev pub VerdictAndTables : List ℕ → Result Examined Refusal → Type 0
-VerdictAndTables ws (Ok e) = FitsWithTables ws e
-VerdictAndTables ws (Err x) = verdict_of (Err x) ≡ verdict_by nothing_more ws

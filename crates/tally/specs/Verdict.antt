@@ -87,3 +87,8 @@ of_verdict (fits n rounds) reply = reply rounds
 abbrev pub verdict_of : Result Sheet Refusal → Verdict
 verdict_of (Err x) = refused (refusal_of x)
 verdict_of (Ok s) = fits s.lifts s.rounds
+
+-- an answer with the counts alone of the sheet that it gives
+abbrev pub counts_of : {A : Type 0} → Result A Refusal → (A → Sheet) → Result Sheet Refusal
+counts_of (Err x) counts = Err x
+counts_of (Ok a) counts = Ok (counts a)

@@ -1,7 +1,13 @@
 // The rounds of a sheet ("Refused because of the sheet" of document 01): the types of their tables.
 #![tactic(auto)]
 
-use sheet::Sheet;
+ghost use Rattle.std.specs.Prelude.{◌≡◌};
+ghost use Rattle.sheet.specs.Sheet.{lifts};
+ghost use Rattle.tally.specs.Verdict.{fits, nothing_more, verdict_by, verdict};
+ghost use Rattle.tally.specs.Law.{Fitting};
+ghost use Rattle.tally.specs.Tables.{Tabled};
+
+use sheet::{LegibleSheet, Sheet};
 
 // An old round: how many lifts it has, how many of them are held, and its sum.
 #[derive(Clone, Copy)]
@@ -42,9 +48,23 @@ impl Tallies {
     };
 }
 
-// A sheet to which none of the refusals up to 9 applies, and its tables.
+// A legible sheet to which none of the refusals 7 to 9 applies: how many lifts and new rounds it has, and its tables.
 #[derive(Clone, Copy)]
-pub struct Examined {
-    pub sheet: Sheet,
+pub struct Examined<'a> {
+    pub sheet: LegibleSheet<'a>,
+    pub counts: Sheet,
     pub tallies: Tallies,
+    pub ghost judged: { fits counts.lifts counts.rounds ≡ verdict_by nothing_more sheet.words.now },
+    pub ghost tabled: { Tabled (lifts sheet.words.now) tallies },
+}
+
+// A sheet that fits: how many lifts and new rounds it has, and its tables.
+#[derive(Clone, Copy)]
+pub struct FittingSheet<'a> {
+    pub sheet: LegibleSheet<'a>,
+    pub counts: Sheet,
+    pub tallies: Tallies,
+    pub ghost fitting: { Fitting sheet.words.now },
+    pub ghost judged: { fits counts.lifts counts.rounds ≡ verdict sheet.words.now },
+    pub ghost tabled: { Tabled (lifts sheet.words.now) tallies },
 }

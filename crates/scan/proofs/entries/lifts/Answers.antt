@@ -3,4 +3,4 @@ use Rattle.sheet.proofs.Walks.{all_left}
 use Rattle.scan.proofs.entries.lifts.Goals as goal
 
 pub invariant_of-result : goal.invariant_of-result
-invariant_of-result c = all_left c.requires
+invariant_of-result c = all_left c.args.sheet.legible
