@@ -1,21 +1,19 @@
 // The tables of a sheet by round, gathered in one walk, and the verdict on a sheet from them ("Refused because of the sheet" of document 01).
 #![tactic(auto)]
 
-ghost use Rattle.std.specs.Prelude.{◌≡◌, List, [], ◌∷◌, ◌++◌, ℕ, ◌≤◌, Bool, ltb, length, get_or, drop, count_by};
+ghost use Rattle.std.specs.Prelude.{◌≡◌, List, [], ◌∷◌, ◌++◌, ℕ, ◌≤◌, Bool, ltb, length, get_or, drop, count_by, IfOk};
 ghost use Rattle.std.specs.Fn.{FnReturnsAt};
 ghost use Rattle.sheet.specs.Sheet.{most_rounds, Lift, lifts};
-ghost use Rattle.sheet.specs.Reading.{Legible};
 ghost use Rattle.sheet.specs.Lift.{entry_of};
 ghost use Rattle.tally.specs.Rounds.{rounds};
-ghost use Rattle.tally.specs.Verdict.{of_rounds, verdict, verdict_of};
+ghost use Rattle.tally.specs.Verdict.{nothing_more, of_rounds, verdict_by, verdict, verdict_of, counts_of};
 ghost use Rattle.tally.specs.Tables.{Tabled, Room, found_first as first_of};
-ghost use Rattle.tally.specs.Law.{FitsWithTables, VerdictAndTables};
 ghost use Rattle.tally.specs.declared.OldRound.{OldRound};
 ghost use Rattle.tally.specs.declared.NewRound.{NewRound};
 
 use reply::Refusal;
-use sheet::{Entry, Sheet};
-use tally::{Examined, NewRound, OldRound, Tallies};
+use sheet::{Entry, LegibleSheet, Sheet};
+use tally::{Examined, FittingSheet, NewRound, OldRound, Tallies};
 
 // ---- the tables
 
@@ -39,9 +37,8 @@ fn add(t: &mut Tallies, l: Entry)
 }
 
 // The tables of a legible sheet, in one walk over its lifts.
-fn survey(sheet: &[u32]) -> Tallies
-    requires { Legible sheet.now }
-    ensures { Tabled (lifts sheet.now) result }
+fn survey(sheet: LegibleSheet<'_>) -> Tallies
+    ensures { Tabled (lifts sheet.entry.words.now) result }
 {
     let mut tables = Tallies::EMPTY;
     for l in scan::lifts(sheet) {
@@ -69,11 +66,10 @@ pub fn in_use(table: &[NewRound; Sheet::TABLE]) -> usize
 
 // ---- the verdict
 
-// The answer to a legible sheet up to refusal 9, from its tables.
-fn check_rounds(sheet: &[u32], t: &Tallies) -> Result<Sheet, Refusal>
-    requires legible { Legible sheet.now }
-    requires tabled { Tabled (lifts sheet.now) t.now }
-    ensures { verdict_of result ≡ of_rounds [] (lifts sheet.now) }
+// How many lifts and new rounds a legible sheet has, or the first of the refusals 7 to 9 that applies to it, from its tables.
+fn check_rounds(sheet: LegibleSheet<'_>, t: &Tallies) -> Result<Sheet, Refusal>
+    requires { Tabled (lifts sheet.words.now) t.now }
+    ensures { verdict_of result ≡ of_rounds [] (lifts sheet.entry.words.now) }
 {
     if let Some(r) = first_round(&t.old, |o| 0 < o.lifts && o.held != 1) {
         return Err(Refusal::NotOneHeld(r));
@@ -93,30 +89,48 @@ fn check_rounds(sheet: &[u32], t: &Tallies) -> Result<Sheet, Refusal>
     })
 }
 
-// The answer to any words by refusals 1 to 9 and 16: refused, with the document's number and place, or fitting, with the tables by round.
-pub fn examine(sheet: &[u32]) -> Result<Examined, Refusal>
-    ensures { VerdictAndTables sheet.now result }
+// The sheet of words with its tables, or the first of the refusals 1 to 9 and 16 that applies to it.
+pub fn examine(words: &[u32]) -> Result<Examined<'_>, Refusal>
+    ensures said { verdict_of (counts_of result (λ e. e.counts)) ≡ verdict_by nothing_more words.now }
+    ensures same { IfOk result (λ e. e.sheet.words ≡ words.entry) }
 {
-    scan::read(sheet)?;
+    let sheet = scan::read(words)?;
     let tallies = survey(sheet);
-    let sheet = check_rounds(sheet, &tallies)?;
-    Ok(Examined { sheet, tallies })
+    let counts = check_rounds(sheet, &tallies)?;
+    Ok(Examined {
+        sheet,
+        counts,
+        tallies,
+    })
 }
 
-// The answer with refusal 10 behind 9, for a sheet that fits up to 9.
-pub fn with_donors(e: &Examined) -> Result<Sheet, Refusal>
-    ensures { (ws : List ℕ) → FitsWithTables ws e.now → verdict_of result ≡ verdict ws }
+// The sheet to which refusal 10 does not apply either.
+pub fn with_donors(e: Examined<'_>) -> Result<FittingSheet<'_>, Refusal>
+    ensures said { verdict_of (counts_of result (λ f. f.counts)) ≡ verdict e.entry.sheet.words.now }
+    ensures same { IfOk result (λ f. f.sheet.words ≡ e.entry.sheet.words) }
 {
     let new = &e.tallies.new;
-    match first_round(new, |n| 0 < n.lifts && 3 <= n.donors.count_ones()) {
-        Some(r) => Err(Refusal::TooManyDonors(r)),
-        None => Ok(e.sheet),
+    if let Some(r) = first_round(new, |n| 0 < n.lifts && 3 <= n.donors.count_ones()) {
+        return Err(Refusal::TooManyDonors(r));
     }
+    Ok(FittingSheet {
+        sheet: e.sheet,
+        counts: e.counts,
+        tallies: e.tallies,
+    })
 }
 
-// The answer to any words: refused, with the document's number and place, or fitting.
-pub fn check(sheet: &[u32]) -> Result<Sheet, Refusal>
-    ensures { verdict_of result ≡ verdict sheet.now }
+// The sheet of words with its tables, or the first of all refusals of a sheet that applies to it.
+pub fn fitting(words: &[u32]) -> Result<FittingSheet<'_>, Refusal>
+    ensures said { verdict_of (counts_of result (λ f. f.counts)) ≡ verdict words.now }
+    ensures same { IfOk result (λ f. f.sheet.words ≡ words.entry) }
 {
-    with_donors(&examine(sheet)?)
+    with_donors(examine(words)?)
+}
+
+// How many lifts and new rounds the sheet of words has, or the first of all refusals of a sheet that applies to it.
+pub fn check(words: &[u32]) -> Result<Sheet, Refusal>
+    ensures { verdict_of result ≡ verdict words.now }
+{
+    Ok(fitting(words)?.counts)
 }

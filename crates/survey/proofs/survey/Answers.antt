@@ -6,7 +6,7 @@ pub loop-l-init : goal.loop-l-init
 loop-l-init c = surveyed_none (c.into_iter-l-iterator.ensures.into_iter_gives ∙ c.lifts-l-items.ensures)
 
 pub add-requires-clause-room : goal.add-requires-clause-room
-add-requires-clause-room c = fits c.loop-l.invariant c.in-Some.ensures.steps c.requires
+add-requires-clause-room c = fits c.loop-l.invariant c.in-Some.ensures.steps c.args.sheet.legible
 
 pub loop-l-preserved : goal.loop-l-preserved
 loop-l-preserved c =

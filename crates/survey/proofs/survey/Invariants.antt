@@ -3,4 +3,4 @@ use Rattle.survey.proofs.Surveys.{Surveyed}
 use Rattle.survey.proofs.survey.Given as goal
 
 abbrev pub invariant-loop-l : goal.invariant-loop-l
-invariant-loop-l l = Surveyed l.sheet l.tables l.l-iterator
+invariant-loop-l l = Surveyed l.sheet.words.now l.tables l.l-iterator
