@@ -3,24 +3,20 @@
 
 ghost use Rattle.std.specs.Prelude.{◌≡◌, ◌^◌, ◌≤◌, ◌<◌, false, length, get_or, None};
 ghost use Rattle.sheet.specs.Sheet.{most_rounds, Lift, lifts as lifts_of_sheet, place_word, lift_words, sheet_of};
-ghost use Rattle.sheet.specs.Reading.{Legible};
 ghost use Rattle.sheet.specs.Lift.{entry_of};
 ghost use Rattle.sheet.specs.Law.{WritablePlace};
-ghost use Rattle.tally.specs.Tables.{Tabled};
 ghost use Rattle.reply.specs.Reply.{onto};
 ghost use Rattle.carry.specs.Next.{remaining as remaining_of, carried, carried_on, has_number, in_table};
 
 use selection::Pick;
-use sheet::{Entry, Sheet};
-use tally::Tallies;
+use sheet::{Entry, LegibleSheet, Sheet};
+use tally::FittingSheet;
 
 // How many of a sheet's lifts have a new round, from its tables.
-pub fn remaining(sheet: &[u32], t: &Tallies) -> usize
-    requires legible { Legible sheet.now }
-    requires tabled { Tabled (lifts_of_sheet sheet.now) t.now }
-    ensures { result ≡ length (remaining_of (lifts_of_sheet sheet.now)) }
+pub fn remaining(fitting: &FittingSheet<'_>) -> usize
+    ensures { result ≡ length (remaining_of (lifts_of_sheet fitting.now.sheet.words.now)) }
 {
-    scan::size(sheet) - t.new[0].lifts as usize
+    scan::size(fitting.sheet) - fitting.tallies.new[0].lifts as usize
 }
 
 // The word of a place.
@@ -54,11 +50,15 @@ fn is_chosen(chosen: &[Option<Pick>; Sheet::TABLE], l: Entry) -> bool
 }
 
 // Next quarter's sheet, written to the beginning of `next`: `chosen` has the lifts chosen by new round, and `lifts` remain.
-pub fn write(sheet: &[u32], chosen: &[Option<Pick>; Sheet::TABLE], lifts: usize, next: &mut [u32])
-    requires legible { Legible sheet.now }
-    requires lifts_value { lifts ≡ length (remaining_of (lifts_of_sheet sheet.now)) }
-    requires sheet_in_bounds { length (sheet_of (carried_on (in_table chosen.now) (lifts_of_sheet sheet.now))) ≤ length next.old }
-    ensures { next.new ≡ onto (sheet_of (carried_on (in_table chosen.now) (lifts_of_sheet sheet.now))) next.old }
+pub fn write(
+    sheet: LegibleSheet<'_>,
+    chosen: &[Option<Pick>; Sheet::TABLE],
+    lifts: usize,
+    next: &mut [u32],
+)
+    requires lifts_value { lifts ≡ length (remaining_of (lifts_of_sheet sheet.words.now)) }
+    requires sheet_in_bounds { length (sheet_of (carried_on (in_table chosen.now) (lifts_of_sheet sheet.words.now))) ≤ length next.old }
+    ensures { next.new ≡ onto (sheet_of (carried_on (in_table chosen.now) (lifts_of_sheet sheet.entry.words.now))) next.old }
 {
     let mut at = 0;
     for l in scan::lifts(sheet) {

@@ -11,7 +11,7 @@ some : (c : Then-l-ne0) → c.in-Some.ensures.steps.lift.new.round ≡ 0 → ⊥
 some c e = c.if-l-ne0.true (ap (λ x. x.to) c.in-Some.ensures.steps.read ∙ e)
 
 pub loop-l-init : goal.loop-l-init
-loop-l-init c = rw (c.into_iter-l-iterator.ensures.into_iter_gives, c.lifts-l-items.ensures) (writing_none (in_table c.args.chosen.now) (read_theorem _ c.requires.legible.read).well_formed)
+loop-l-init c = rw (c.into_iter-l-iterator.ensures.into_iter_gives, c.lifts-l-items.ensures) (writing_none (in_table c.args.chosen.now) (read_theorem _ c.args.sheet.legible.read).well_formed)
 
 pub next_words-requires-clause-number_bound : goal.next_words-requires-clause-number_bound
 next_words-requires-clause-number_bound c = number_small (in_table c.args.chosen.now) (writing_first (in_table c.args.chosen.now) c.loop-l.invariant c.in-Some.ensures.steps) c.in-Some.ensures.steps.read
@@ -38,10 +38,10 @@ pub loop-l-preserved : goal.loop-l-preserved
 loop-l-preserved c = writing_past (in_table c.args.chosen.now) (writing_first (in_table c.args.chosen.now) c.loop-l.invariant c.in-Some.ensures.steps) (sym (ap (λ x. x.to) c.in-Some.ensures.steps.read) ∙ c.if-l-ne0.false)
 
 pub overflow_cast-lifts : goal.overflow_cast-lifts
-overflow_cast-lifts c = record { fits = omega (arith, c.requires.lifts_value, remaining_fit c.requires.legible) }
+overflow_cast-lifts c = record { fits = omega (arith, c.requires.lifts_value, remaining_fit c.args.sheet.legible) }
 
 pub word-requires-clause-payload_bound : goal.word-requires-clause-payload_bound
-word-requires-clause-payload_bound c = omega (arith, c.requires.lifts_value, remaining_fit c.requires.legible)
+word-requires-clause-payload_bound c = omega (arith, c.requires.lifts_value, remaining_fit c.args.sheet.legible)
 
 pub bounds-next-at-2 : goal.bounds-next-at-2
 bounds-next-at-2 c = end_fits (in_table c.args.chosen.now) (rw c.in-None.ensures.steps.0 at c.loop-l.invariant) c.requires.sheet_in_bounds

@@ -5,4 +5,4 @@ use Rattle.carry.proofs.Writing.{Writing}
 use Rattle.carry.proofs.write.Given as goal
 
 abbrev pub invariant-loop-l : goal.invariant-loop-l
-invariant-loop-l l = Writing (in_table l.chosen) (lifts l.sheet) l.l-iterator l.initial.next l.next l.at
+invariant-loop-l l = Writing (in_table l.chosen) (lifts l.sheet.words.now) l.l-iterator l.initial.next l.next l.at
