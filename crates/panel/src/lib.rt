@@ -9,7 +9,6 @@ ghost use Rattle.sheet.specs.Sheet.{most_rounds, lifts as lifts_of_sheet};
 ghost use Rattle.sheet.specs.Reading.{Legible};
 ghost use Rattle.sheet.specs.Lift.{New};
 ghost use Rattle.tally.specs.Rounds.{in_use};
-ghost use Rattle.tally.specs.Tables.{Tabled};
 ghost use Rattle.tally.specs.Law.{Fitting};
 ghost use Rattle.selection.specs.Choice.{by_update, fourth, panel as panel_of, unless_lacking, of_lent, written_panel, reply, output};
 ghost use Rattle.selection.specs.Fair.{Fair};
@@ -20,7 +19,7 @@ use draw::Reader;
 use output::write_pairs;
 use picks::{Fourth, Way, select_all};
 use reply::{Done, Refusal};
-use tally::Tallies;
+use tally::FittingSheet;
 
 mod output;
 
@@ -42,21 +41,18 @@ fn lacking(rounds: usize, words: usize, start: usize, room: usize) -> Result<(),
 // The answer to a fitting sheet by a way, from its tables.
 fn choose_fitting<W: Way>(
     way: &W,
-    sheet: &[u32],
-    t: &Tallies,
+    fitting: &FittingSheet<'_>,
     words: &[u64],
     start: usize,
     out: &mut [u32],
 ) -> Result<Done, Refusal>
-    requires fitting { Fitting sheet.now }
-    requires tabled { Tabled (lifts_of_sheet sheet.now) t.now }
-    ensures replied { reply_of result ≡ of_lent (by_update W.update) (lifts_of_sheet sheet.now) (length (in_use New (lifts_of_sheet sheet.now))) words.now start (length out.old) }
-    ensures written { out.new ≡ unless_refused (of_lent (by_update W.update) (lifts_of_sheet sheet.now) (length (in_use New (lifts_of_sheet sheet.now))) words.now start (length out.old)) out.old (written_panel (panel_of (by_update W.update) (lifts_of_sheet sheet.now) words.now start) out.old) }
+    ensures replied { reply_of result ≡ of_lent (by_update W.update) (lifts_of_sheet fitting.now.sheet.words.now) (length (in_use New (lifts_of_sheet fitting.now.sheet.words.now))) words.now start (length out.old) }
+    ensures written { out.new ≡ unless_refused (of_lent (by_update W.update) (lifts_of_sheet fitting.now.sheet.words.now) (length (in_use New (lifts_of_sheet fitting.now.sheet.words.now))) words.now start (length out.old)) out.old (written_panel (panel_of (by_update W.update) (lifts_of_sheet fitting.now.sheet.words.now) words.now start) out.old) }
 {
-    let rounds = survey::in_use(&t.new);
+    let rounds = fitting.counts.rounds;
     lacking(rounds, words.len(), start, out.len())?;
     let mut reader = Reader::new(words, start);
-    let picks = select_all(way, sheet, t, &mut reader)?;
+    let picks = select_all(way, fitting, &mut reader)?;
     write_pairs(&picks, out);
     Ok(Done {
         many: rounds,
@@ -75,9 +71,8 @@ fn choose_by<W: Way>(
     ensures replied { reply_of result ≡ reply (by_update W.update) sheet.now words.now start (length out.old) }
     ensures written { out.new ≡ output (by_update W.update) sheet.now words.now start out.old }
 {
-    let examined = survey::examine(sheet)?;
-    survey::with_donors(&examined)?;
-    choose_fitting(way, sheet, &examined.tallies, words, start, out)
+    let fitting = survey::fitting(sheet)?;
+    choose_fitting(way, &fitting, words, start, out)
 }
 
 // The whole choice by the fourth procedure: refused, with nothing written and no word used up, or one lift for each new round, written
@@ -94,29 +89,26 @@ pub fn choose(sheet: &[u32], words: &[u64], start: usize, out: &mut [u32]) -> Re
 
 // The answer to a fitting sheet, from its tables, with next quarter's sheet.
 fn choose_next_fitting(
-    sheet: &[u32],
-    t: &Tallies,
+    fitting: &FittingSheet<'_>,
     words: &[u64],
     start: usize,
     out: &mut [u32],
     next: &mut [u32],
 ) -> Result<Done, Refusal>
-    requires fitting { Fitting sheet.now }
-    requires tabled { Tabled (lifts_of_sheet sheet.now) t.now }
-    ensures replied { reply_of result ≡ of_lent_next (lifts_of_sheet sheet.now) (length (in_use New (lifts_of_sheet sheet.now))) words.now start (length out.old) (length next.old) }
-    ensures written { out.new ≡ unless_refused (of_lent_next (lifts_of_sheet sheet.now) (length (in_use New (lifts_of_sheet sheet.now))) words.now start (length out.old) (length next.old)) out.old (written_panel (panel_of fourth (lifts_of_sheet sheet.now) words.now start) out.old) }
-    ensures carried { next.new ≡ unless_refused (of_lent_next (lifts_of_sheet sheet.now) (length (in_use New (lifts_of_sheet sheet.now))) words.now start (length out.old) (length next.old)) next.old (carried_to (panel_of fourth (lifts_of_sheet sheet.now) words.now start) (lifts_of_sheet sheet.now) next.old) }
+    ensures replied { reply_of result ≡ of_lent_next (lifts_of_sheet fitting.now.sheet.words.now) (length (in_use New (lifts_of_sheet fitting.now.sheet.words.now))) words.now start (length out.old) (length next.old) }
+    ensures written { out.new ≡ unless_refused (of_lent_next (lifts_of_sheet fitting.now.sheet.words.now) (length (in_use New (lifts_of_sheet fitting.now.sheet.words.now))) words.now start (length out.old) (length next.old)) out.old (written_panel (panel_of fourth (lifts_of_sheet fitting.now.sheet.words.now) words.now start) out.old) }
+    ensures carried { next.new ≡ unless_refused (of_lent_next (lifts_of_sheet fitting.now.sheet.words.now) (length (in_use New (lifts_of_sheet fitting.now.sheet.words.now))) words.now start (length out.old) (length next.old)) next.old (carried_to (panel_of fourth (lifts_of_sheet fitting.now.sheet.words.now) words.now start) (lifts_of_sheet fitting.now.sheet.words.now) next.old) }
 {
-    let rounds = survey::in_use(&t.new);
+    let rounds = fitting.counts.rounds;
     lacking(rounds, words.len(), start, out.len())?;
-    let lifts = carry::remaining(sheet, t);
+    let lifts = carry::remaining(fitting);
     let space = 3 * lifts + rounds + 1;
     if next.len() < space {
         return Err(Refusal::Next(space));
     }
     let mut reader = Reader::new(words, start);
-    let picks = select_all(&Fourth, sheet, t, &mut reader)?;
-    carry::write(sheet, &picks, lifts, next);
+    let picks = select_all(&Fourth, fitting, &mut reader)?;
+    carry::write(fitting.sheet, &picks, lifts, next);
     write_pairs(&picks, out);
     Ok(Done {
         many: rounds,
@@ -139,7 +131,6 @@ pub fn choose_next(
     ensures carries { Fitting sheet.now → CarriesAll (lifts_of_sheet sheet.now) }
     ensures fair { Fitting sheet.now → Fair fourth (lifts_of_sheet sheet.now) }
 {
-    let examined = survey::examine(sheet)?;
-    survey::with_donors(&examined)?;
-    choose_next_fitting(sheet, &examined.tallies, words, start, out, next)
+    let fitting = survey::fitting(sheet)?;
+    choose_next_fitting(&fitting, words, start, out, next)
 }

@@ -8,8 +8,6 @@ ghost use Rattle.round.specs.Choice.{Update, keyfitz, selected_by};
 ghost use Rattle.round.specs.Rows.{row_length, row_lifts as lifts_of_rows, initial_of, initials, Callable};
 ghost use Rattle.weights.specs.Scaling.{HasSums};
 ghost use Rattle.sheet.specs.Sheet.{most_rounds, lifts as lifts_of_sheet};
-ghost use Rattle.tally.specs.Tables.{Tabled};
-ghost use Rattle.tally.specs.Law.{Fitting};
 ghost use Rattle.selection.specs.Choice.{with_sums, by_update, panel as panel_of};
 ghost use Rattle.picks.specs.Choosing.{donors_at, old_sum, initial_by, initials_at, picked_at, picks_of, Behind};
 
@@ -19,7 +17,7 @@ use round::{Donors, Held, Lift, Selection};
 use rows::LaidRound;
 use selection::Pick;
 use sheet::Sheet;
-use tally::{OldRound, Tallies};
+use tally::{FittingSheet, OldRound};
 use weights::Sums;
 
 // The lifts chosen, by new round.
@@ -139,20 +137,19 @@ fn choose_lift<W: Way>(way: &W, rows: &[u32], given: Given, words: &mut Reader<'
 
 // ---- all rounds
 
-// The lifts chosen for a fitting sheet by a way, from its tables; its lifts are laid out in the rows lent.
+// The lifts chosen for a fitting sheet by a way; its lifts are laid out in the rows lent.
 fn select_rounds<W: Way>(
     way: &W,
-    sheet: &[u32],
-    t: &Tallies,
+    fitting: &FittingSheet<'_>,
     rows: &mut [u32],
     words: &mut Reader<'_>,
 ) -> Result<Picks, Refusal>
-    requires fitting { Fitting sheet.now × Tabled (lifts_of_sheet sheet.now) t.now }
-    requires rows_len { length rows.old ≡ row_length * length (lifts_of_sheet sheet.now) }
-    ensures picked { result ≡ picks_of (panel_of (by_update W.update) (lifts_of_sheet sheet.now) words.old.words.now words.old.at) }
-    ensures behind { Behind (panel_of (by_update W.update) (lifts_of_sheet sheet.now) words.old.words.now words.old.at) words.new.at }
+    requires { length rows.old ≡ row_length * length (lifts_of_sheet fitting.now.sheet.words.now) }
+    ensures picked { result ≡ picks_of (panel_of (by_update W.update) (lifts_of_sheet fitting.now.sheet.words.now) words.old.words.now words.old.at) }
+    ensures behind { Behind (panel_of (by_update W.update) (lifts_of_sheet fitting.now.sheet.words.now) words.old.words.now words.old.at) words.new.at }
 {
-    let layout = rows::lay_out(sheet, t, rows);
+    let t = &fitting.tallies;
+    let layout = rows::lay_out(fitting, rows);
     let mut picks = [None; Sheet::TABLE];
     for r in 1..Sheet::TABLE {
         let round = layout.rounds[r];
@@ -175,16 +172,13 @@ fn select_rounds<W: Way>(
 // The same, with rows of its own.
 pub fn select_all<W: Way>(
     way: &W,
-    sheet: &[u32],
-    t: &Tallies,
+    fitting: &FittingSheet<'_>,
     words: &mut Reader<'_>,
 ) -> Result<Picks, Refusal>
-    requires fitting { Fitting sheet.now }
-    requires tabled { Tabled (lifts_of_sheet sheet.now) t.now }
-    ensures picked { result ≡ picks_of (panel_of (by_update W.update) (lifts_of_sheet sheet.now) words.old.words.now words.old.at) }
-    ensures behind { Behind (panel_of (by_update W.update) (lifts_of_sheet sheet.now) words.old.words.now words.old.at) words.new.at }
+    ensures picked { result ≡ picks_of (panel_of (by_update W.update) (lifts_of_sheet fitting.now.sheet.words.now) words.old.words.now words.old.at) }
+    ensures behind { Behind (panel_of (by_update W.update) (lifts_of_sheet fitting.now.sheet.words.now) words.old.words.now words.old.at) words.new.at }
 {
     let mut rows = [0u32; Lift::ROW * Sheet::MOST_LIFTS];
-    let end = Lift::ROW * scan::size(sheet);
-    select_rounds(way, sheet, t, &mut rows[..end], words)
+    let end = Lift::ROW * fitting.counts.lifts;
+    select_rounds(way, fitting, &mut rows[..end], words)
 }

@@ -16,23 +16,23 @@ use Rattle.panel.proofs.choose_fitting.Given.{Over}
 use Rattle.panel.proofs.choose_fitting.Goals.{In_ok-lacking, In_ok-picks}
 
 -- nothing is lacking
-nothing : (g : Over) (c : In_ok-lacking g) → let a = c.args in (a.start ≤ length a.words.now) × (2 * length (in_use New (lifts a.sheet.now)) ≤ length a.out.now)
+nothing : (g : Over) (c : In_ok-lacking g) → let a = c.args in (a.start ≤ length a.words.now) × (2 * length (in_use New (lifts a.fitting.now.sheet.words.now)) ≤ length a.out.now)
 nothing g c = let a = c.args in
-    suffices (length (in_use New (lifts a.sheet.now))) (length a.words.now) a.start (length a.out.now)
-    (rw (in_use_lem (lifts a.sheet.now) c.requires.tabled.new c.in_use-rounds.ensures) at c.in_ok-lacking.ensures)
+    suffices (length (in_use New (lifts a.fitting.now.sheet.words.now))) (length a.words.now) a.start (length a.out.now)
+    (rw (in_use_lem (lifts a.fitting.now.sheet.words.now) c.requires.tabled.new c.in_use-rounds.ensures) at c.in_ok-lacking.ensures)
 
 -- the choices are the panel's
-chosen : (g : Over) (c : In_ok-picks g) → let a = c.args in Gathered (by_update g.W.Way.update) (lifts a.sheet.now) a.words.now a.start c.in_ok-picks.picks c.select_all.new.words.at
+chosen : (g : Over) (c : In_ok-picks g) → let a = c.args in Gathered (by_update g.W.Way.update) (lifts a.fitting.now.sheet.words.now) a.words.now a.start c.in_ok-picks.picks c.select_all.new.words.at
 chosen g c = let r = c.new-reader.ensures in
     gathered (by_update g.W.Way.update) _ _ _ (rw (r.list, r.position) at c.in_ok-picks.ensures.picked) (rw (r.list, r.position) at c.in_ok-picks.ensures.behind)
 
 pub lacking-requires : goal.lacking-requires
-lacking-requires g c = rw (in_use_lem (lifts c.args.sheet.now) c.requires.tabled.new c.in_use-rounds.ensures) (few_rounds (lifts c.args.sheet.now))
+lacking-requires g c = rw (in_use_lem (lifts c.args.fitting.now.sheet.words.now) c.requires.tabled.new c.in_use-rounds.ensures) (few_rounds (lifts c.args.fitting.now.sheet.words.now))
 
 pub returns-in_err-lacking : goal.returns-in_err-lacking
 returns-in_err-lacking g c =
     let p = err_from_is_err_and c.from_residual.result c.from_residual.ensures.1 in
-    let e = rw (in_use_lem (lifts c.args.sheet.now) c.requires.tabled.new c.in_use-rounds.ensures) at c.in_err-lacking.ensures in
+    let e = rw (in_use_lem (lifts c.args.fitting.now.sheet.words.now) c.requires.tabled.new c.in_use-rounds.ensures) at c.in_err-lacking.ensures in
     let q = left_refused _ c.args.out.now _ (e _) in
     record { replied = rw (p.1, p.2) q.0; written = q.1 }
 
@@ -42,13 +42,13 @@ returns-in_err-picks g c =
     let way = by_update g.W.Way.update in
     let p = err_from_is_err_and c.from_residual-in_err-picks.result c.from_residual-in_err-picks.ensures.1 in
     let r = c.new-reader.ensures in
-    let e = ended way (lifts a.sheet.now) a.words.now a.start (rw (r.list, r.position) at c.in_err-picks.ensures.picked) a.out.now in
-    let q = through way (lifts a.sheet.now) a.words.now a.start a.out.now (nothing g (goal.at.returns-in_err-picks g c).In_ok-lacking) e.0 e.1 in
+    let e = ended way (lifts a.fitting.now.sheet.words.now) a.words.now a.start (rw (r.list, r.position) at c.in_err-picks.ensures.picked) a.out.now in
+    let q = through way (lifts a.fitting.now.sheet.words.now) a.words.now a.start a.out.now (nothing g (goal.at.returns-in_err-picks g c).In_ok-lacking) e.0 e.1 in
     record { replied = rw (p.1, p.2) q.0; written = q.1 }
 
 pub write_pairs-requires : goal.write_pairs-requires
 write_pairs-requires g c =
-    writable _ _ _ _ (chosen g (goal.at.write_pairs-requires g c).In_ok-picks) (fit c.requires.fitting) _ (nothing g (goal.at.write_pairs-requires g c).In_ok-lacking).1
+    writable _ _ _ _ (chosen g (goal.at.write_pairs-requires g c).In_ok-picks) (fit c.args.fitting.now.fitting) _ (nothing g (goal.at.write_pairs-requires g c).In_ok-lacking).1
 
 pub overflow_sub-result : goal.overflow_sub-result
 overflow_sub-result g c = onward _ _ _ _ (chosen g (goal.at.overflow_sub-result g c).In_ok-picks)
@@ -58,6 +58,6 @@ returns g c =
     let a = c.args in
     let way = by_update g.W.Way.update in
     let d = chosen g (goal.at.returns g c).In_ok-picks in
-    let q = through way (lifts a.sheet.now) a.words.now a.start a.out.now (nothing g (goal.at.returns g c).In_ok-lacking)
-    (replied_all _ _ _ _ d (in_use_lem (lifts a.sheet.now) c.requires.tabled.new c.in_use-rounds.ensures)) (c.write_pairs.ensures ∙ written_all _ _ _ _ d (fit c.requires.fitting) a.out.now) in
+    let q = through way (lifts a.fitting.now.sheet.words.now) a.words.now a.start a.out.now (nothing g (goal.at.returns g c).In_ok-lacking)
+    (replied_all _ _ _ _ d (in_use_lem (lifts a.fitting.now.sheet.words.now) c.requires.tabled.new c.in_use-rounds.ensures)) (c.write_pairs.ensures ∙ written_all _ _ _ _ d (fit c.args.fitting.now.fitting) a.out.now) in
     record { replied = q.0; written = q.1 }

@@ -20,22 +20,22 @@ use Rattle.panel.proofs.choose_next_fitting.Goals as goal
 use Rattle.panel.proofs.choose_next_fitting.Goals.{After-in_use-rounds, In_ok-lacking, In_ok-picks}
 
 -- how many new rounds there are
-rounds : (c : After-in_use-rounds) → c.in_use-rounds.result ≡ length (in_use New (lifts c.args.sheet.now))
+rounds : (c : After-in_use-rounds) → c.in_use-rounds.result ≡ length (in_use New (lifts c.args.fitting.now.sheet.words.now))
 rounds c = in_use_lem _ c.requires.tabled.new c.in_use-rounds.ensures
 
 -- neither words nor output are lacking
-nothing : (c : In_ok-lacking) → let a = c.args in (a.start ≤ length a.words.now) × (2 * length (in_use New (lifts a.sheet.now)) ≤ length a.out.now)
+nothing : (c : In_ok-lacking) → let a = c.args in (a.start ≤ length a.words.now) × (2 * length (in_use New (lifts a.fitting.now.sheet.words.now)) ≤ length a.out.now)
 nothing c = let a = c.args in
-    suffices (length (in_use New (lifts a.sheet.now))) (length a.words.now) a.start (length a.out.now)
-    (rw (in_use_lem (lifts a.sheet.now) c.requires.tabled.new c.in_use-rounds.ensures) at c.in_ok-lacking.ensures)
+    suffices (length (in_use New (lifts a.fitting.now.sheet.words.now))) (length a.words.now) a.start (length a.out.now)
+    (rw (in_use_lem (lifts a.fitting.now.sheet.words.now) c.requires.tabled.new c.in_use-rounds.ensures) at c.in_ok-lacking.ensures)
 
 -- the choices are the panel's
-chosen : (c : In_ok-picks) → let a = c.args in Gathered fourth (lifts a.sheet.now) a.words.now a.start c.in_ok-picks.picks c.select_all.new.words.at
+chosen : (c : In_ok-picks) → let a = c.args in Gathered fourth (lifts a.fitting.now.sheet.words.now) a.words.now a.start c.in_ok-picks.picks c.select_all.new.words.at
 chosen c = let r = c.new-reader.ensures in
     gathered fourth _ _ _ (rw (r.list, r.position) at c.in_ok-picks.ensures.picked) (rw (r.list, r.position) at c.in_ok-picks.ensures.behind)
 
 pub lacking-requires : goal.lacking-requires
-lacking-requires c = rw (rounds (goal.at.lacking-requires c).After-in_use-rounds) (few_rounds (lifts c.args.sheet.now))
+lacking-requires c = rw (rounds (goal.at.lacking-requires c).After-in_use-rounds) (few_rounds (lifts c.args.fitting.now.sheet.words.now))
 
 pub returns-in_err-lacking : goal.returns-in_err-lacking
 returns-in_err-lacking c =
@@ -45,20 +45,20 @@ returns-in_err-lacking c =
     record { replied = rw (p.1, p.2) q.0; written = q.1.0; carried = q.1.1 }
 
 pub overflow_mul-space : goal.overflow_mul-space
-overflow_mul-space c = omega (arith, c.remaining-lifts.ensures, remaining_fit c.requires.fitting.legible)
+overflow_mul-space c = omega (arith, c.remaining-lifts.ensures, remaining_fit c.args.fitting.now.fitting.legible)
 
 pub overflow_add-space : goal.overflow_add-space
-overflow_add-space c = omega (arith, c.remaining-lifts.ensures, remaining_fit c.requires.fitting.legible, rounds (goal.at.overflow_add-space c).After-in_use-rounds, few_rounds (lifts c.args.sheet.now))
+overflow_add-space c = omega (arith, c.remaining-lifts.ensures, remaining_fit c.args.fitting.now.fitting.legible, rounds (goal.at.overflow_add-space c).After-in_use-rounds, few_rounds (lifts c.args.fitting.now.sheet.words.now))
 
 pub overflow_add-space-2 : goal.overflow_add-space-2
-overflow_add-space-2 c = omega (arith, c.remaining-lifts.ensures, remaining_fit c.requires.fitting.legible, rounds (goal.at.overflow_add-space-2 c).After-in_use-rounds, few_rounds (lifts c.args.sheet.now))
+overflow_add-space-2 c = omega (arith, c.remaining-lifts.ensures, remaining_fit c.args.fitting.now.fitting.legible, rounds (goal.at.overflow_add-space-2 c).After-in_use-rounds, few_rounds (lifts c.args.fitting.now.sheet.words.now))
 
 pub returns-then-next-space : goal.returns-then-next-space
 returns-then-next-space c =
     let a = c.args in
     let n = rounds (goal.at.returns-then-next-space c).After-in_use-rounds in
-    let e = cramped (lifts a.sheet.now) a.words.now a.start a.out.now a.next.now _ (nothing (goal.at.returns-then-next-space c).In_ok-lacking) c.remaining-lifts.ensures (rw n at c.if-next-space.true) in
-    let q = both_refused (Next (3 * c.remaining-lifts.result + length (in_use New (lifts a.sheet.now)) + 1)) a.out.now _ a.next.now _ e in
+    let e = cramped (lifts a.fitting.now.sheet.words.now) a.words.now a.start a.out.now a.next.now _ (nothing (goal.at.returns-then-next-space c).In_ok-lacking) c.remaining-lifts.ensures (rw n at c.if-next-space.true) in
+    let q = both_refused (Next (3 * c.remaining-lifts.result + length (in_use New (lifts a.fitting.now.sheet.words.now)) + 1)) a.out.now _ a.next.now _ e in
     record { replied = rw n q.0; written = q.1.0; carried = q.1.1 }
 
 pub returns-in_err-picks : goal.returns-in_err-picks
@@ -67,21 +67,21 @@ returns-in_err-picks c =
     let p = err_from_is_err_and c.from_residual-in_err-picks.result c.from_residual-in_err-picks.ensures.1 in
     let r = c.new-reader.ensures in
     let d = rw (r.list, r.position) at c.in_err-picks.ensures.picked in
-    let e = ended fourth (lifts a.sheet.now) a.words.now a.start d a.out.now in
+    let e = ended fourth (lifts a.fitting.now.sheet.words.now) a.words.now a.start d a.out.now in
     let n = rounds (goal.at.returns-in_err-picks c).After-in_use-rounds in
-    let q = through_next (lifts a.sheet.now) a.words.now a.start a.out.now a.next.now c.remaining-lifts.result (nothing (goal.at.returns-in_err-picks c).In_ok-lacking) c.remaining-lifts.ensures
-    (rw n at c.if-next-space.false) e.0 e.1 (carried_ended (lifts a.sheet.now) a.words.now a.start d a.next.now) in
+    let q = through_next (lifts a.fitting.now.sheet.words.now) a.words.now a.start a.out.now a.next.now c.remaining-lifts.result (nothing (goal.at.returns-in_err-picks c).In_ok-lacking) c.remaining-lifts.ensures
+    (rw n at c.if-next-space.false) e.0 e.1 (carried_ended (lifts a.fitting.now.sheet.words.now) a.words.now a.start d a.next.now) in
     record { replied = rw (p.1, p.2) q.0; written = q.1.0; carried = q.1.1 }
 
 pub write-requires-clause-sheet_in_bounds : goal.write-requires-clause-sheet_in_bounds
 write-requires-clause-sheet_in_bounds c =
-    let h : words_needed (lifts c.args.sheet.now) (length (in_use New (lifts c.args.sheet.now))) ≤ length c.args.next.now
+    let h : words_needed (lifts c.args.fitting.now.sheet.words.now) (length (in_use New (lifts c.args.fitting.now.sheet.words.now))) ≤ length c.args.next.now
     = rw (← c.remaining-lifts.ensures, ← rounds (goal.at.write-requires-clause-sheet_in_bounds c).After-in_use-rounds) c.if-next-space.false in
-    room (fit c.requires.fitting) _ _ (chosen (goal.at.write-requires-clause-sheet_in_bounds c).In_ok-picks) h
+    room (fit c.args.fitting.now.fitting) _ _ (chosen (goal.at.write-requires-clause-sheet_in_bounds c).In_ok-picks) h
 
 pub write_pairs-requires : goal.write_pairs-requires
 write_pairs-requires c =
-    writable _ _ _ _ (chosen (goal.at.write_pairs-requires c).In_ok-picks) (fit c.requires.fitting) _ (nothing (goal.at.write_pairs-requires c).In_ok-lacking).1
+    writable _ _ _ _ (chosen (goal.at.write_pairs-requires c).In_ok-picks) (fit c.args.fitting.now.fitting) _ (nothing (goal.at.write_pairs-requires c).In_ok-lacking).1
 
 pub overflow_sub-result : goal.overflow_sub-result
 overflow_sub-result c = onward _ _ _ _ (chosen (goal.at.overflow_sub-result c).In_ok-picks)
@@ -91,7 +91,7 @@ returns c =
     let a = c.args in
     let d = chosen (goal.at.returns c).In_ok-picks in
     let n = rounds (goal.at.returns c).After-in_use-rounds in
-    let f = fit c.requires.fitting in
-    let q = through_next (lifts a.sheet.now) a.words.now a.start a.out.now a.next.now c.remaining-lifts.result (nothing (goal.at.returns c).In_ok-lacking) c.remaining-lifts.ensures
+    let f = fit c.args.fitting.now.fitting in
+    let q = through_next (lifts a.fitting.now.sheet.words.now) a.words.now a.start a.out.now a.next.now c.remaining-lifts.result (nothing (goal.at.returns c).In_ok-lacking) c.remaining-lifts.ensures
     (rw n at c.if-next-space.false) (replied_all _ _ _ _ d n) (c.write_pairs.ensures ∙ written_all _ _ _ _ d f a.out.now) (c.write.ensures ∙ carried_all f _ _ d a.next.now) in
     record { replied = q.0; written = q.1.0; carried = q.1.1 }

@@ -9,8 +9,8 @@ use Rattle.picks.proofs.select_rounds.Goals.{then-not-is_empty+in-Some, else-not
 
 pub loop-r-init : goal.loop-r-init
 loop-r-init g c =
-    let p = c.requires.fitting in
-    record { lent = record { fit = fit p.0; long = omega (arith, c.lay_out-layout.auto.rows, c.requires.rows_len); laid = c.lay_out-layout.ensures; tabled = p.1 }; going = going_none _ _ _ _; list = refl }
+    let p = c.args.fitting.now in
+    record { lent = record { fit = fit p.fitting; long = omega (arith, c.lay_out-layout.auto.rows, c.requires); laid = c.lay_out-layout.ensures; tabled = p.tabled }; going = going_none _ _ _ _; list = refl }
 
 pub overflow_mul-part : goal.overflow_mul-part
 overflow_mul-part g c = let d = c.loop-r.invariant.lent in omega (arith, rises d c.loop-r.auto.r (omega (arith, c.loop-r-test.true)), few d c.loop-r.auto.r (omega (arith, c.loop-r-test.true)))

@@ -9,7 +9,7 @@ use Rattle.picks.proofs.select_rounds.Given as goal
 abbrev pub invariant-loop-r : goal.invariant-loop-r
 invariant-loop-r g l =
     record {
-      lent : Lent (lifts l.sheet) l.rows l.layout l.t;
-      going : Going (by_update g.W.Way.update) (lifts l.sheet) l.fn.words.words.now l.fn.words.at l.picks l.words.at l.r;
+      lent : Lent (lifts l.fitting.sheet.words.now) l.rows l.layout l.fitting.tallies;
+      going : Going (by_update g.W.Way.update) (lifts l.fitting.sheet.words.now) l.fn.words.words.now l.fn.words.at l.picks l.words.at l.r;
       list : l.words.words ≡ l.fn.words.words;
     }
