@@ -16,9 +16,9 @@ use Rattle.reply.specs.declared.Reply.{Reply}
 use Rattle.reply.specs.declared.Refusal.{Refusal}
 use Rattle.reply.specs.declared.Refusal.TheVariants.{Words}
 use Rattle.tally.specs.Rounds.{in_use}
-use Rattle.tally.specs.Law.{FitBy, FittingBy}
-use Rattle.tally.specs.Verdict.{refused, fits, verdict_by}
-use Rattle.tally.proofs.Verdicts.{decided}
+use Rattle.tally.specs.Law.{FitBy}
+use Rattle.tally.specs.Verdict.{refused, fits, crowded, verdict, verdict_by}
+use Rattle.tally.proofs.Verdicts.{decided, judged_fits}
 use Rattle.sheet.specs.Lift.{New}
 use Rattle.selection.specs.declared.Pick.{Pick}
 use Rattle.selection.specs.Choice.{Way, Choice, Panel, chosen, short, panel, by_round, none_chosen, of_panel, unless_lacking, of_lent, reply, written_pairs, written_panel, output}
@@ -132,6 +132,10 @@ module _ (way : Way) (sheet ws : List ℕ) (start : ℕ) (out : List ℕ) where
   unfolding reply output
   at_fitting e f g = rw (← e) (f, g)
 
--- a sheet that a way does not refuse fits
-pub fits_by : {refuses : List Lift → List Refusal} (ws : List ℕ) {n k : ℕ} → verdict_by refuses ws ≡ fits n k → FittingBy refuses ws
-fits_by {refuses} ws q = ((decided refuses ws).only _ _ q).0
+-- how many new rounds a fitting sheet has
+pub counted : (ws : List ℕ) {n k : ℕ} → fits n k ≡ verdict ws → k ≡ length (in_use New (lifts ws))
+counted ws e = ((decided crowded ws).only _ _ (sym e)).2
+
+-- the verdict on a sheet that fits
+pub fitting_counts : (ws : List ℕ) {n k : ℕ} → fits n k ≡ verdict ws → fits (length (lifts ws)) (length (in_use New (lifts ws))) ≡ verdict ws
+fitting_counts ws e = sym ((decided crowded ws).passes (judged_fits ws e))

@@ -6,11 +6,11 @@ use Rattle.std.proofs.lemmas.Result.{err_from_is_err_and}
 use Rattle.sheet.specs.Sheet.{lifts}
 use Rattle.tally.specs.Rounds.{in_use}
 use Rattle.sheet.specs.Lift.{New}
-use Rattle.tally.proofs.Verdicts.{fit, in_use_lem}
+use Rattle.tally.proofs.Verdicts.{fit}
 use Rattle.reply.proofs.Replies.{left_refused}
 use Rattle.selection.specs.Choice.{by_update}
 use Rattle.selection.proofs.Choices.{few_rounds}
-use Rattle.panel.proofs.Answers.{Gathered, gathered, ended, onward, replied_all, writable, written_all, suffices, through}
+use Rattle.panel.proofs.Answers.{Gathered, gathered, ended, onward, replied_all, writable, written_all, suffices, counted, through}
 use Rattle.panel.proofs.choose_fitting.Goals as goal
 use Rattle.panel.proofs.choose_fitting.Given.{Over}
 use Rattle.panel.proofs.choose_fitting.Goals.{In_ok-lacking, In_ok-picks}
@@ -19,7 +19,7 @@ use Rattle.panel.proofs.choose_fitting.Goals.{In_ok-lacking, In_ok-picks}
 nothing : (g : Over) (c : In_ok-lacking g) → let a = c.args in (a.start ≤ length a.words.now) × (2 * length (in_use New (lifts a.fitting.now.sheet.words.now)) ≤ length a.out.now)
 nothing g c = let a = c.args in
     suffices (length (in_use New (lifts a.fitting.now.sheet.words.now))) (length a.words.now) a.start (length a.out.now)
-    (rw (in_use_lem (lifts a.fitting.now.sheet.words.now) c.requires.tabled.new c.in_use-rounds.ensures) at c.in_ok-lacking.ensures)
+    (rw (counted a.fitting.now.sheet.words.now a.fitting.now.judged) at c.in_ok-lacking.ensures)
 
 -- the choices are the panel's
 chosen : (g : Over) (c : In_ok-picks g) → let a = c.args in Gathered (by_update g.W.Way.update) (lifts a.fitting.now.sheet.words.now) a.words.now a.start c.in_ok-picks.picks c.select_all.new.words.at
@@ -27,12 +27,12 @@ chosen g c = let r = c.new-reader.ensures in
     gathered (by_update g.W.Way.update) _ _ _ (rw (r.list, r.position) at c.in_ok-picks.ensures.picked) (rw (r.list, r.position) at c.in_ok-picks.ensures.behind)
 
 pub lacking-requires : goal.lacking-requires
-lacking-requires g c = rw (in_use_lem (lifts c.args.fitting.now.sheet.words.now) c.requires.tabled.new c.in_use-rounds.ensures) (few_rounds (lifts c.args.fitting.now.sheet.words.now))
+lacking-requires g c = rw (counted c.args.fitting.now.sheet.words.now c.args.fitting.now.judged) (few_rounds (lifts c.args.fitting.now.sheet.words.now))
 
 pub returns-in_err-lacking : goal.returns-in_err-lacking
 returns-in_err-lacking g c =
     let p = err_from_is_err_and c.from_residual.result c.from_residual.ensures.1 in
-    let e = rw (in_use_lem (lifts c.args.fitting.now.sheet.words.now) c.requires.tabled.new c.in_use-rounds.ensures) at c.in_err-lacking.ensures in
+    let e = rw (counted c.args.fitting.now.sheet.words.now c.args.fitting.now.judged) at c.in_err-lacking.ensures in
     let q = left_refused _ c.args.out.now _ (e _) in
     record { replied = rw (p.1, p.2) q.0; written = q.1 }
 
@@ -59,5 +59,5 @@ returns g c =
     let way = by_update g.W.Way.update in
     let d = chosen g (goal.at.returns g c).In_ok-picks in
     let q = through way (lifts a.fitting.now.sheet.words.now) a.words.now a.start a.out.now (nothing g (goal.at.returns g c).In_ok-lacking)
-    (replied_all _ _ _ _ d (in_use_lem (lifts a.fitting.now.sheet.words.now) c.requires.tabled.new c.in_use-rounds.ensures)) (c.write_pairs.ensures ∙ written_all _ _ _ _ d (fit c.args.fitting.now.fitting) a.out.now) in
+    (replied_all _ _ _ _ d (counted a.fitting.now.sheet.words.now a.fitting.now.judged)) (c.write_pairs.ensures ∙ written_all _ _ _ _ d (fit c.args.fitting.now.fitting) a.out.now) in
     record { replied = q.0; written = q.1 }

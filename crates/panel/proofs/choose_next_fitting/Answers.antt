@@ -2,32 +2,28 @@
 -- nothing.
 use native.Mathlib.Omega.{arith}
 use Prim.Native.Nat.{◌*◌, ◌+◌, ◌≤◌}
-use mathlib.Core.Path.{◌≡◌, ◌∙◌}
+use mathlib.Core.Path.{◌∙◌}
 use lib.ListN.{length}
 use Rattle.std.proofs.lemmas.Result.{err_from_is_err_and}
 use Rattle.sheet.specs.Sheet.{lifts}
 use Rattle.tally.specs.Rounds.{in_use}
 use Rattle.sheet.specs.Lift.{New}
-use Rattle.tally.proofs.Verdicts.{fit, in_use_lem}
+use Rattle.tally.proofs.Verdicts.{fit}
 use Rattle.reply.specs.declared.Refusal.TheVariants.{Next}
 use Rattle.carry.specs.Next.{words_needed}
 use Rattle.carry.proofs.Writing.{remaining_fit}
 use Rattle.selection.specs.Choice.{fourth}
 use Rattle.selection.proofs.Choices.{few_rounds}
-use Rattle.panel.proofs.Answers.{Gathered, gathered, ended, onward, replied_all, writable, written_all, suffices}
+use Rattle.panel.proofs.Answers.{Gathered, gathered, ended, onward, replied_all, writable, written_all, suffices, counted}
 use Rattle.panel.proofs.Nexts.{both_refused, room, carried_all, carried_ended, cramped, through_next}
 use Rattle.panel.proofs.choose_next_fitting.Goals as goal
-use Rattle.panel.proofs.choose_next_fitting.Goals.{After-in_use-rounds, In_ok-lacking, In_ok-picks}
-
--- how many new rounds there are
-rounds : (c : After-in_use-rounds) → c.in_use-rounds.result ≡ length (in_use New (lifts c.args.fitting.now.sheet.words.now))
-rounds c = in_use_lem _ c.requires.tabled.new c.in_use-rounds.ensures
+use Rattle.panel.proofs.choose_next_fitting.Goals.{In_ok-lacking, In_ok-picks}
 
 -- neither words nor output are lacking
 nothing : (c : In_ok-lacking) → let a = c.args in (a.start ≤ length a.words.now) × (2 * length (in_use New (lifts a.fitting.now.sheet.words.now)) ≤ length a.out.now)
 nothing c = let a = c.args in
     suffices (length (in_use New (lifts a.fitting.now.sheet.words.now))) (length a.words.now) a.start (length a.out.now)
-    (rw (in_use_lem (lifts a.fitting.now.sheet.words.now) c.requires.tabled.new c.in_use-rounds.ensures) at c.in_ok-lacking.ensures)
+    (rw (counted a.fitting.now.sheet.words.now a.fitting.now.judged) at c.in_ok-lacking.ensures)
 
 -- the choices are the panel's
 chosen : (c : In_ok-picks) → let a = c.args in Gathered fourth (lifts a.fitting.now.sheet.words.now) a.words.now a.start c.in_ok-picks.picks c.select_all.new.words.at
@@ -35,12 +31,12 @@ chosen c = let r = c.new-reader.ensures in
     gathered fourth _ _ _ (rw (r.list, r.position) at c.in_ok-picks.ensures.picked) (rw (r.list, r.position) at c.in_ok-picks.ensures.behind)
 
 pub lacking-requires : goal.lacking-requires
-lacking-requires c = rw (rounds (goal.at.lacking-requires c).After-in_use-rounds) (few_rounds (lifts c.args.fitting.now.sheet.words.now))
+lacking-requires c = rw (counted c.args.fitting.now.sheet.words.now c.args.fitting.now.judged) (few_rounds (lifts c.args.fitting.now.sheet.words.now))
 
 pub returns-in_err-lacking : goal.returns-in_err-lacking
 returns-in_err-lacking c =
     let p = err_from_is_err_and c.from_residual.result c.from_residual.ensures.1 in
-    let e = rw (rounds (goal.at.returns-in_err-lacking c).After-in_use-rounds) at c.in_err-lacking.ensures in
+    let e = rw (counted c.args.fitting.now.sheet.words.now c.args.fitting.now.judged) at c.in_err-lacking.ensures in
     let q = both_refused _ c.args.out.now _ c.args.next.now _ (e _) in
     record { replied = rw (p.1, p.2) q.0; written = q.1.0; carried = q.1.1 }
 
@@ -48,15 +44,15 @@ pub overflow_mul-space : goal.overflow_mul-space
 overflow_mul-space c = omega (arith, c.remaining-lifts.ensures, remaining_fit c.args.fitting.now.fitting.legible)
 
 pub overflow_add-space : goal.overflow_add-space
-overflow_add-space c = omega (arith, c.remaining-lifts.ensures, remaining_fit c.args.fitting.now.fitting.legible, rounds (goal.at.overflow_add-space c).After-in_use-rounds, few_rounds (lifts c.args.fitting.now.sheet.words.now))
+overflow_add-space c = omega (arith, c.remaining-lifts.ensures, remaining_fit c.args.fitting.now.fitting.legible, counted c.args.fitting.now.sheet.words.now c.args.fitting.now.judged, few_rounds (lifts c.args.fitting.now.sheet.words.now))
 
 pub overflow_add-space-2 : goal.overflow_add-space-2
-overflow_add-space-2 c = omega (arith, c.remaining-lifts.ensures, remaining_fit c.args.fitting.now.fitting.legible, rounds (goal.at.overflow_add-space-2 c).After-in_use-rounds, few_rounds (lifts c.args.fitting.now.sheet.words.now))
+overflow_add-space-2 c = omega (arith, c.remaining-lifts.ensures, remaining_fit c.args.fitting.now.fitting.legible, counted c.args.fitting.now.sheet.words.now c.args.fitting.now.judged, few_rounds (lifts c.args.fitting.now.sheet.words.now))
 
 pub returns-then-next-space : goal.returns-then-next-space
 returns-then-next-space c =
     let a = c.args in
-    let n = rounds (goal.at.returns-then-next-space c).After-in_use-rounds in
+    let n = counted c.args.fitting.now.sheet.words.now c.args.fitting.now.judged in
     let e = cramped (lifts a.fitting.now.sheet.words.now) a.words.now a.start a.out.now a.next.now _ (nothing (goal.at.returns-then-next-space c).In_ok-lacking) c.remaining-lifts.ensures (rw n at c.if-next-space.true) in
     let q = both_refused (Next (3 * c.remaining-lifts.result + length (in_use New (lifts a.fitting.now.sheet.words.now)) + 1)) a.out.now _ a.next.now _ e in
     record { replied = rw n q.0; written = q.1.0; carried = q.1.1 }
@@ -68,7 +64,7 @@ returns-in_err-picks c =
     let r = c.new-reader.ensures in
     let d = rw (r.list, r.position) at c.in_err-picks.ensures.picked in
     let e = ended fourth (lifts a.fitting.now.sheet.words.now) a.words.now a.start d a.out.now in
-    let n = rounds (goal.at.returns-in_err-picks c).After-in_use-rounds in
+    let n = counted c.args.fitting.now.sheet.words.now c.args.fitting.now.judged in
     let q = through_next (lifts a.fitting.now.sheet.words.now) a.words.now a.start a.out.now a.next.now c.remaining-lifts.result (nothing (goal.at.returns-in_err-picks c).In_ok-lacking) c.remaining-lifts.ensures
     (rw n at c.if-next-space.false) e.0 e.1 (carried_ended (lifts a.fitting.now.sheet.words.now) a.words.now a.start d a.next.now) in
     record { replied = rw (p.1, p.2) q.0; written = q.1.0; carried = q.1.1 }
@@ -76,7 +72,7 @@ returns-in_err-picks c =
 pub write-requires-clause-sheet_in_bounds : goal.write-requires-clause-sheet_in_bounds
 write-requires-clause-sheet_in_bounds c =
     let h : words_needed (lifts c.args.fitting.now.sheet.words.now) (length (in_use New (lifts c.args.fitting.now.sheet.words.now))) ≤ length c.args.next.now
-    = rw (← c.remaining-lifts.ensures, ← rounds (goal.at.write-requires-clause-sheet_in_bounds c).After-in_use-rounds) c.if-next-space.false in
+    = rw (← c.remaining-lifts.ensures, ← counted c.args.fitting.now.sheet.words.now c.args.fitting.now.judged) c.if-next-space.false in
     room (fit c.args.fitting.now.fitting) _ _ (chosen (goal.at.write-requires-clause-sheet_in_bounds c).In_ok-picks) h
 
 pub write_pairs-requires : goal.write_pairs-requires
@@ -90,7 +86,7 @@ pub returns : goal.returns
 returns c =
     let a = c.args in
     let d = chosen (goal.at.returns c).In_ok-picks in
-    let n = rounds (goal.at.returns c).After-in_use-rounds in
+    let n = counted c.args.fitting.now.sheet.words.now c.args.fitting.now.judged in
     let f = fit c.args.fitting.now.fitting in
     let q = through_next (lifts a.fitting.now.sheet.words.now) a.words.now a.start a.out.now a.next.now c.remaining-lifts.result (nothing (goal.at.returns c).In_ok-lacking) c.remaining-lifts.ensures
     (rw n at c.if-next-space.false) (replied_all _ _ _ _ d n) (c.write_pairs.ensures ∙ written_all _ _ _ _ d f a.out.now) (c.write.ensures ∙ carried_all f _ _ d a.next.now) in
