@@ -19,7 +19,7 @@ use Rattle.sheet.proofs.Legibility.{words_legible, AboveWord, above_of_words}
 use Rattle.tally.proofs.Verdicts.{decided}
 use Rattle.reply.specs.declared.Refusal.{Refusal}
 use Rattle.counts.specs.Text.{lines, CountLine, counted, malformed, count_line}
-use Rattle.counts.specs.Counts.{measure_for, at_line, lines_from, numbers_of, of_lines, renewed, counts_verdict, counts_reply, counts_output}
+use Rattle.counts.specs.Counts.{at_line, lines_from, numbers_of, of_lines, renewed, counts_verdict, counts_reply, counts_output}
 use Rattle.intake.specs.Positions.{RisingAbove, measures_for, AllTaken, lifts_with, sheet_with}
 use Rattle.intake.proofs.Measures.{all_small, lifts_measured}
 
@@ -70,9 +70,6 @@ module _ {ws ns : List ℕ} (l : Legible ws) (e : ns ≡ numbers_of (lifts ws)) 
   module _ (text : List ℕ) {n : ℕ} {ms : List (Option ℕ)} (t : AllTaken ns (lines text) n ms) where
     is_measures : ms ≡ measures_for (numbers_of (lifts ws)) (lines text)
     is_measures = t.filled ∙ ap (λ ns. measures_for ns (lines text)) e
-
-    pub taken_long : length ms ≡ length (lifts ws)
-    taken_long = ap length is_measures ∙ length-map (numbers_of (lifts ws)) (measure_for (lines text)) ∙ length-map (lifts ws) (λ l. l.number)
 
     pub taken_small : All (λ o. IfSome o (λ m. m ≤ largest_sum)) ms
     taken_small = rw is_measures (all_small (lines text) (numbers_of (lifts ws)))

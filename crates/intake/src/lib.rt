@@ -5,22 +5,20 @@ ghost use Rattle.std.specs.Prelude.{◌≡◌, ◌≤◌, length, All, IfSome};
 ghost use Rattle.reply.specs.Reply.{replied, unless_refused};
 ghost use Rattle.reply.specs.Refusal.{reply_of};
 ghost use Rattle.sheet.specs.Sheet.{largest_sum, new_kind, place_of, place_word, lifts};
-ghost use Rattle.sheet.specs.Reading.{Legible};
 ghost use Rattle.counts.specs.Counts.{numbers_of, counts_reply, counts_output};
 ghost use Rattle.counts.specs.Law.{Takes};
 ghost use Rattle.intake.specs.Positions.{sheet_with};
 
 use reply::{Done, Refusal};
-use sheet::Sheet;
+use sheet::{LegibleSheet, Sheet};
 
 mod lines;
 mod text;
 
-// The numbers of a legible sheet's lifts.
-fn number_lifts(sheet: &[u32], numbers: &mut [u32])
-    requires legible { Legible sheet.now }
-    requires numbers_len { length numbers.old ≡ length (lifts sheet.now) }
-    ensures { numbers.new ≡ numbers_of (lifts sheet.now) }
+// The numbers of a sheet's lifts.
+fn number_lifts(sheet: LegibleSheet<'_>, numbers: &mut [u32])
+    requires numbers_len { length numbers.old ≡ length (lifts sheet.words.now) }
+    ensures { numbers.new ≡ numbers_of (lifts sheet.entry.words.now) }
 {
     for (k, lift) in scan::lifts(sheet).enumerate() {
         numbers[k] = lift.number;
@@ -36,18 +34,19 @@ fn renew(word: u32, measure: u32) -> u32
     Sheet::word(Sheet::NEW, Sheet::place(round, measure))
 }
 
-// New measures put into a legible sheet, for each lift in its place, if there is one.
-fn put(sheet: &mut [u32], measures: &[Option<u32>])
-    requires legible { Legible sheet.old }
-    requires measures_len { length measures.now ≡ length (lifts sheet.old) }
+// A sheet's words written with new measures, for each lift in its place, if there is one.
+fn put(sheet: LegibleSheet<'_>, measures: &[Option<u32>], words: &mut [u32])
+    requires measures_len { length measures.now ≡ length (lifts sheet.words.now) }
     requires small { All (λ o. IfSome o (λ m. m ≤ largest_sum)) measures.now }
-    ensures { sheet.new ≡ sheet_with sheet.old measures.now }
+    requires words_len { length words.old ≡ length sheet.words.now }
+    ensures { words.new ≡ sheet_with sheet.entry.words.now measures.now }
 {
+    words.copy_from_slice(sheet.words);
     let mut i = 0;
     for measure in measures {
-        let held = scan::marks(sheet, i);
+        let held = scan::marks(words, i);
         if let Some(measure) = *measure {
-            sheet[i + 2] = renew(sheet[i + 2], measure);
+            words[i + 2] = renew(words[i + 2], measure);
         }
         i += 3 + held;
     }
@@ -59,18 +58,17 @@ pub fn take(sheet: &mut [u32], text: &[u8]) -> Result<Done, Refusal>
     ensures written { sheet.new ≡ counts_output sheet.old text.now }
     ensures taken { Takes sheet.old text.now }
 {
-    scan::read(sheet)?;
-    let n = scan::size(sheet);
+    let lent = scan::read(sheet)?;
+    let n = scan::size(lent);
     let mut numbers = [0; Sheet::MOST_LIFTS];
     let numbers = &mut numbers[..n];
     let mut measures = [None; Sheet::MOST_LIFTS];
     let measures = &mut measures[..n];
     let mut words = [0; Sheet::LONGEST];
-    let words = &mut words[..sheet.len()];
-    number_lifts(sheet, numbers);
+    let words = &mut words[..lent.words.len()];
+    number_lifts(lent, numbers);
     let many = lines::gather(text, numbers, measures)?;
-    words.copy_from_slice(sheet);
-    put(words, measures);
+    put(lent, measures, words);
     survey::check(words)?;
     sheet.copy_from_slice(words);
     Ok(Done { many, words: 0 })

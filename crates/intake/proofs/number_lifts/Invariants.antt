@@ -4,4 +4,4 @@ use Rattle.intake.proofs.Renewing.{Numbering}
 use Rattle.intake.proofs.number_lifts.Given as goal
 
 abbrev pub invariant-loop-k : goal.invariant-loop-k
-invariant-loop-k l = Numbering (lifts l.sheet) l.numbers l.k-iterator.iter l.k-iterator.count
+invariant-loop-k l = Numbering (lifts l.sheet.words.now) l.numbers l.k-iterator.iter l.k-iterator.count

@@ -4,22 +4,22 @@ use Rattle.intake.proofs.put.Goals as goal
 use Rattle.intake.proofs.put.Goals.{in-Some, in_default}
 
 pub loop-measure-init : goal.loop-measure-init
-loop-measure-init c = putting_none c.requires.legible c.requires.measures_len
+loop-measure-init c = rw c.copy_from_slice.ensures.after (putting_none c.args.sheet.legible c.requires.measures_len)
 
 pub marks-held-requires : goal.marks-held-requires
 marks-held-requires c = putting_room c.loop-measure.invariant c.loop-measure-test.true
 
-pub bounds-sheet-i : goal.bounds-sheet-i
-bounds-sheet-i c = omega (arith, putting_room c.loop-measure.invariant c.loop-measure-test.true)
+pub bounds-words-i : goal.bounds-words-i
+bounds-words-i c = omega (arith, putting_room c.loop-measure.invariant c.loop-measure-test.true)
 
-pub bounds-sheet-i-in-Some : goal.bounds-sheet-i-in-Some
-bounds-sheet-i-in-Some c = omega (arith, putting_room c.loop-measure.invariant c.loop-measure-test.true)
+pub bounds-words-i-in-Some : goal.bounds-words-i-in-Some
+bounds-words-i-in-Some c = omega (arith, putting_room c.loop-measure.invariant c.loop-measure-test.true)
 
 pub loop-measure-preserved : goal.loop-measure-preserved
 loop-measure-preserved c =
     elim c.match-measure.branch [
-      | in-Some w ↦ rw w.sheet-is (putting_turn c.loop-measure.invariant c.loop-measure-test.true w.in-Some.is c.marks-held.ensures w.renew.ensures)
-      | in_default w ↦ rw w.sheet-is (putting_kept c.loop-measure.invariant c.loop-measure-test.true w.in_default.is c.marks-held.ensures)
+      | in-Some w ↦ rw w.words-is (putting_turn c.loop-measure.invariant c.loop-measure-test.true w.in-Some.is c.marks-held.ensures w.renew.ensures)
+      | in_default w ↦ rw w.words-is (putting_kept c.loop-measure.invariant c.loop-measure-test.true w.in_default.is c.marks-held.ensures)
     ]
 
 pub returns : goal.returns

@@ -5,62 +5,58 @@ use Rattle.std.specs.Prelude.{None}
 use Rattle.std.proofs.lemmas.List.{take-replicate}
 use lib.Seq.{length-take-le}
 use Rattle.std.proofs.lemmas.Result.{err_from_is_err_and}
-use Rattle.sheet.proofs.Legibility.{legible_words}
 use Rattle.counts.proofs.Taken.{takes}
-use Rattle.intake.proofs.Taking.{few, numbers_long, rising, at_word, at_line_lem, taken_small, taken_long, at_refused, at_fits}
+use Rattle.intake.proofs.Taking.{few, numbers_long, rising, at_word, at_line_lem, taken_small, at_refused, at_fits}
 use Rattle.intake.proofs.take.Goals as goal
 
-pub returns-in_err-read : goal.returns-in_err-read
-returns-in_err-read c =
+pub returns-in_err-lent : goal.returns-in_err-lent
+returns-in_err-lent c =
     let p = err_from_is_err_and c.from_residual.result c.from_residual.ensures.1 in
-    let q = at_word c.args.sheet.now c.args.text.now _ c.in_err-read.ensures in
+    let q = at_word c.args.sheet.now c.args.text.now _ c.in_err-lent.ensures.reading in
     record { replied = rw (p.1, p.2) q.0; written = q.1; taken = takes _ _ }
 
 pub slice_bounds-numbers-end : goal.slice_bounds-numbers-end
-slice_bounds-numbers-end c = few (legible_words (sym c.in_ok-read.ensures)) c.size-n.ensures
+slice_bounds-numbers-end c = few c.in_ok-lent.lent.legible c.size-n.ensures
 
 pub slice_bounds-numbers-end-2 : goal.slice_bounds-numbers-end-2
-slice_bounds-numbers-end-2 c = sym (length-take-le _ _ (few (legible_words (sym c.in_ok-read.ensures)) c.size-n.ensures))
+slice_bounds-numbers-end-2 c = sym (length-take-le _ _ (few c.in_ok-lent.lent.legible c.size-n.ensures))
 
 pub slice_bounds-measures-end : goal.slice_bounds-measures-end
-slice_bounds-measures-end c = few (legible_words (sym c.in_ok-read.ensures)) c.size-n.ensures
+slice_bounds-measures-end c = few c.in_ok-lent.lent.legible c.size-n.ensures
 
 pub slice_bounds-measures-end-2 : goal.slice_bounds-measures-end-2
-slice_bounds-measures-end-2 c = sym (length-take-le _ _ (few (legible_words (sym c.in_ok-read.ensures)) c.size-n.ensures))
+slice_bounds-measures-end-2 c = sym (length-take-le _ _ (few c.in_ok-lent.lent.legible c.size-n.ensures))
 
-pub number_lifts-requires-clause-numbers_len : goal.number_lifts-requires-clause-numbers_len
-number_lifts-requires-clause-numbers_len c = length-take-le _ _ (few (legible_words (sym c.in_ok-read.ensures)) c.size-n.ensures) ∙ c.size-n.ensures
+pub number_lifts-requires : goal.number_lifts-requires
+number_lifts-requires c = record { numbers_len = length-take-le _ _ (few c.in_ok-lent.lent.legible c.size-n.ensures) ∙ c.size-n.ensures }
 
-pub gather-requires : goal.gather-requires
-gather-requires c =
-    let long = numbers_long (legible_words (sym c.in_ok-read.ensures)) c.number_lifts.ensures in
-    record {
-      few = few (legible_words (sym c.in_ok-read.ensures)) long;
-      rising = rising (legible_words (sym c.in_ok-read.ensures)) c.number_lifts.ensures;
-      empty = take-replicate _ _ None (few (legible_words (sym c.in_ok-read.ensures)) c.size-n.ensures) ∙ ap (λ n. replicate n None) (c.size-n.ensures ∙ sym long);
-    }
+pub gather-requires-clause-rising : goal.gather-requires-clause-rising
+gather-requires-clause-rising c = rising c.in_ok-lent.lent.legible c.number_lifts.ensures
+
+pub gather-requires-clause-empty : goal.gather-requires-clause-empty
+gather-requires-clause-empty c =
+    let long = numbers_long c.in_ok-lent.lent.legible c.number_lifts.ensures in
+    take-replicate _ _ None (few c.in_ok-lent.lent.legible c.size-n.ensures) ∙ ap (λ n. replicate n None) (c.size-n.ensures ∙ sym long)
 
 pub returns-in_err-many : goal.returns-in_err-many
 returns-in_err-many c =
     let p = err_from_is_err_and c.from_residual-in_err-many.result c.from_residual-in_err-many.ensures.1 in
-    let q = at_line_lem (legible_words (sym c.in_ok-read.ensures)) c.number_lifts.ensures c.args.text.now _ c.in_err-many.ensures in
+    let q = rw (ap (λ s. s.now) c.in_ok-lent.ensures.same) at (at_line_lem c.in_ok-lent.lent.legible c.number_lifts.ensures c.args.text.now _ c.in_err-many.ensures) in
     record { replied = rw (p.1, p.2) q.0; written = q.1; taken = takes _ _ }
 
-pub put-requires-clause-measures_len : goal.put-requires-clause-measures_len
-put-requires-clause-measures_len c = rw c.copy_from_slice.ensures.after (taken_long (legible_words (sym c.in_ok-read.ensures)) c.number_lifts.ensures c.args.text.now c.in_ok-many.ensures)
-
 pub put-requires-clause-small : goal.put-requires-clause-small
-put-requires-clause-small c = taken_small (legible_words (sym c.in_ok-read.ensures)) c.number_lifts.ensures c.args.text.now c.in_ok-many.ensures
+put-requires-clause-small c = taken_small c.in_ok-lent.lent.legible c.number_lifts.ensures c.args.text.now c.in_ok-many.ensures
 
 pub returns-in_err-check : goal.returns-in_err-check
 returns-in_err-check c =
     let p = err_from_is_err_and c.from_residual-in_err-check.result c.from_residual-in_err-check.ensures.1 in
-    let v = rw (c.put.ensures, c.copy_from_slice.ensures.after) at c.in_err-check.ensures in
-    let q = at_refused (legible_words (sym c.in_ok-read.ensures)) c.number_lifts.ensures c.args.text.now c.in_ok-many.ensures _ v in
+    let v = rw c.put.ensures at c.in_err-check.ensures in
+    let q = rw (ap (λ s. s.now) c.in_ok-lent.ensures.same) at (at_refused c.in_ok-lent.lent.legible c.number_lifts.ensures c.args.text.now c.in_ok-many.ensures _ v) in
     record { replied = rw (p.1, p.2) q.0; written = q.1; taken = takes _ _ }
 
 pub returns : goal.returns
 returns c =
-    let v = rw (c.put.ensures, c.copy_from_slice.ensures.after) at c.in_ok-check.ensures in
-    let q = at_fits (legible_words (sym c.in_ok-read.ensures)) c.number_lifts.ensures c.args.text.now c.in_ok-many.ensures v in
-    record { replied = q.0; written = rw (c.copy_from_slice-2.ensures.after, c.put.ensures, c.copy_from_slice.ensures.after) q.1; taken = takes _ _ }
+    let same = ap (λ s. s.now) c.in_ok-lent.ensures.same in
+    let v = rw c.put.ensures at c.in_ok-check.ensures in
+    let q = rw same at (at_fits c.in_ok-lent.lent.legible c.number_lifts.ensures c.args.text.now c.in_ok-many.ensures v) in
+    record { replied = q.0; written = rw (c.copy_from_slice.ensures.after, c.put.ensures, same) q.1; taken = takes _ _ }
