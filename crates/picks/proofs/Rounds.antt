@@ -47,7 +47,7 @@ use Rattle.selection.proofs.Flags.{of_round_all}
 use Rattle.selection.proofs.Sums.{U_by_number}
 use Rattle.selection.proofs.RoundsFit.{Donor, donors_rise, donors_few, S_round, round_fits, round_bounded, round_stands}
 use Rattle.selection.proofs.Selections.{sends_named}
-use Rattle.picks.specs.Choosing.{both, donors_at, old_sum, initial_by, initials_at}
+use Rattle.picks.specs.Choosing.{up_to_two, donors_at, old_sum, initial_by, initials_at}
 
 -- ---- the lifts of rows
 
@@ -132,10 +132,10 @@ module _ {ls : List Lift} {rows : List ℕ} {x : Layout} {t : Tallies} (d : Lent
   round = round_at x.rounds r
 
   begin : round.begin ≡ lifts_below r ls
-  begin = d.laid.bounds.begin r high
+  begin = d.laid.spans.begin r high
 
   end : round.end ≡ lifts_below (suc r) ls
-  end = d.laid.bounds.end r high
+  end = d.laid.spans.end r high
 
   -- it ends behind its lifts, inside the rows
   ends : round.end ≡ round.begin + lift_count New r ls
@@ -218,7 +218,7 @@ module _ {ls : List Lift} {rows : List ℕ} {x : Layout} {t : Tallies} (d : Lent
   donors_given : donors_at round ≡ donors r ls
   donors_given = rw (first_is, second_is) (go (donors r ls) (donors_few d.fit low high))
     where
-      go : (ds : List ℕ) → length ds ≤ 2 → both (slice_get ds 0) (slice_get ds 1) ≡ ds
+      go : (ds : List ℕ) → length ds ≤ 2 → up_to_two (slice_get ds 0) (slice_get ds 1) ≡ ds
       go [] h = refl
       go (t ∷ []) h = refl
       go (t ∷ u ∷ []) h = refl

@@ -17,13 +17,13 @@ use Rattle.selection.specs.declared.Pick.{Pick}
 -- ---- one round
 
 -- the donors of a round
-abbrev pub both : Option ℕ → Option ℕ → List ℕ
-both None second = []
-both (Some t) None = t ∷ []
-both (Some t) (Some u) = t ∷ u ∷ []
+abbrev pub up_to_two : Option ℕ → Option ℕ → List ℕ
+up_to_two None second = []
+up_to_two (Some t) None = t ∷ []
+up_to_two (Some t) (Some u) = t ∷ u ∷ []
 
 abbrev pub donors_at : LaidRound → List ℕ
-donors_at x = both x.first x.second
+donors_at x = up_to_two x.first x.second
 
 -- the sum of an old round in its table
 abbrev pub old_sum : List OldRound → ℕ → ℕ
