@@ -8,9 +8,9 @@ use native.Mathlib.Omega.{arith}
 use lib.Dec.{eqb}
 use lib.ListN.{length, get_or, take, drop}
 use Rattle.std.proofs.lemmas.List.{take_rest}
-use borrow.Author.Tests.{lt-leb, eq-eqb, ne_eqb}
+use borrow.Author.Tests.{lt-leb, eq-eqb, ne_eqb, eqb-true}
 use Rattle.sheet.specs.Sheet.{largest_sum, not_counted, kind, payload, place_of, lift_kind, old_kind, new_kind, end_kind}
-use Rattle.sheet.specs.Reading.{ScanState, next_state, may_follow, misplaced, fault, Reading, faulty, sound, unless_fault, read_from, reading}
+use Rattle.sheet.specs.Reading.{ScanState, next_state, may_follow, is_place, misplaced, uncounted_newcomer, fault, Reading, faulty, sound, unless_fault, read_from, reading}
 use Rattle.reply.specs.Reply.{Numbered, numbered}
 use Rattle.scan.specs.Scan.{Kept}
 
@@ -23,6 +23,17 @@ and_then sound rest = rest
 unless_then : (n i : ℕ) (rest : Reading) → and_then (unless_fault n i sound) rest ≡ unless_fault n i rest
 unless_then zero i rest = refl
 unless_then (suc n) i rest = refl
+
+-- ---- a place
+
+-- a word in sequence that holds a place meets no other refusal than 4 and 16
+pub place_fault : (s : ScanState) (w : ℕ) → may_follow s.kind (kind w) ≡ true → is_place (kind w) ≡ true → fault s w ≡ cond (misplaced w) 4 (cond (uncounted_newcomer s w) 16 0)
+unfolding fault
+place_fault s w f h = go (eqb (kind w) old_kind) refl
+  where
+    go : (t : Bool) → eqb (kind w) old_kind ≡ t → fault s w ≡ cond (misplaced w) 4 (cond (uncounted_newcomer s w) 16 0)
+    go true e = let k = eqb-true (kind w) old_kind e in rw (f, k)
+    go false e = let k = eqb-true (kind w) new_kind (rw e at h) in rw (f, k)
 
 -- ---- a lift's three words
 
