@@ -8,7 +8,7 @@ ghost use Rattle.sheet.specs.Law.{WritablePlace};
 ghost use Rattle.reply.specs.Reply.{onto};
 ghost use Rattle.carry.specs.Next.{remaining as remaining_of, carried, carried_on, has_number, in_table};
 
-use selection::Pick;
+use selection::Picks;
 use sheet::{Entry, LegibleSheet, Sheet};
 use tally::FittingSheet;
 
@@ -42,7 +42,7 @@ fn next_words(l: Entry) -> [u32; 3]
 }
 
 // Whether a lift is the one chosen in its new round.
-fn is_chosen(chosen: &[Option<Pick>; Sheet::TABLE], l: Entry) -> bool
+fn is_chosen(chosen: &Picks, l: Entry) -> bool
     requires { l.to ≤ most_rounds }
     ensures { result ≡ has_number (get_or chosen.now l.to None) l.number }
 {
@@ -50,12 +50,7 @@ fn is_chosen(chosen: &[Option<Pick>; Sheet::TABLE], l: Entry) -> bool
 }
 
 // Next quarter's sheet, written to the beginning of `next`: `chosen` has the lifts chosen by new round, and `lifts` remain.
-pub fn write(
-    sheet: LegibleSheet<'_>,
-    chosen: &[Option<Pick>; Sheet::TABLE],
-    lifts: usize,
-    next: &mut [u32],
-)
+pub fn write(sheet: LegibleSheet<'_>, chosen: &Picks, lifts: usize, next: &mut [u32])
     requires lifts_value { lifts ≡ length (remaining_of (lifts_of_sheet sheet.words.now)) }
     requires sheet_in_bounds { length (sheet_of (carried_on (in_table chosen.now) (lifts_of_sheet sheet.words.now))) ≤ length next.old }
     ensures { next.new ≡ onto (sheet_of (carried_on (in_table chosen.now) (lifts_of_sheet sheet.entry.words.now))) next.old }

@@ -4,8 +4,7 @@ ghost use Rattle.sheet.specs.Sheet.{most_rounds};
 ghost use Rattle.selection.specs.Choice.{pair};
 ghost use Rattle.panel.specs.Writing.{PairFits, PairsFit, with_pairs};
 
-use picks::Picks;
-use selection::Pick;
+use selection::{Pick, Picks};
 use sheet::Sheet;
 
 // The kinds of a choice's two words: its round and outcome, and the number of its lift.

@@ -15,13 +15,10 @@ use draw::Reader;
 use reply::Refusal;
 use round::{Donors, Held, Lift, Selection};
 use rows::LaidRound;
-use selection::Pick;
+use selection::{Pick, Picks};
 use sheet::Sheet;
 use tally::{FittingSheet, OldRound};
 use weights::Sums;
-
-// The lifts chosen, by new round.
-pub type Picks = [Option<Pick>; Sheet::TABLE];
 
 // What the choice of a round goes by, besides its rows: its donors, where their held lifts are, and its sums.
 #[derive(Clone, Copy)]

@@ -1,6 +1,8 @@
 #![tactic(auto)]
 
-// The whole choice as a definition, and demand 3 as a theorem of it; of code the type of a lift chosen alone.
+// The whole choice as a definition, and demand 3 as a theorem of it; of code the types of the lifts chosen alone.
+
+use sheet::Sheet;
 
 // A lift chosen in a round: its number, and the document's outcome.
 #[derive(Clone, Copy)]
@@ -8,3 +10,6 @@ pub struct Pick {
     pub number: u32,
     pub outcome: u32,
 }
+
+// The lifts chosen, by new round.
+pub type Picks = [Option<Pick>; Sheet::TABLE];
