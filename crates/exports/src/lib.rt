@@ -14,8 +14,10 @@ ghost use Rattle.carry.specs.Reply.{reply_next, output_next, lent_sheet};
 ghost use Rattle.exports.specs.Reply.{DrawReply, donors_from, held_from, RoundReply, CheckReply};
 
 use draw::Reader;
+use procedure::Given;
 use reply::{Done, Refusal, Reply};
 use round::{Donors, Held};
+use weights::Sums;
 
 // `draw::Reader::draw` from position `at` on: true, the value and the next position written; or false, nothing written, where the words end. A bound of 0 has no value, so every word is passed over.
 #[unsafe(no_mangle)]
@@ -82,14 +84,15 @@ pub extern "C" fn jengpilo_round_select(
     requires { Callable (donors_from donors t1 t2) (row_lifts rows.now) (held_from held i j) }
     ensures { RoundReply (held_from held i j) (selected (donors_from donors t1 t2) (row_lifts rows.now) (initials (held_from held i j)) words.now at) result place.old place.new outcome.old outcome.new next.old next.new }
 {
-    let from = donors_from(donors, t1, t2);
-    let here = held_from(held, i, j);
-    let sums = weights::Sums::of(rows, from);
+    let donors = donors_from(donors, t1, t2);
+    let held = held_from(held, i, j);
+    let sums = Sums::of(rows, donors);
     let mut reader = Reader::new(words, at);
-    let Some(chosen) = procedure::select(rows, from, here, sums, &mut reader) else {
+    let given = Given { donors, held, sums };
+    let Some(chosen) = procedure::select(rows, given, &mut reader) else {
         return false;
     };
-    let was_held = procedure::is_held(here, chosen.place);
+    let was_held = procedure::is_held(held, chosen.place);
     *place = chosen.place;
     *outcome = procedure::outcome(was_held, chosen.dropped);
     *next = reader.at;

@@ -12,6 +12,7 @@ ghost use Rattle.selection.specs.Choice.{with_sums, by_update, panel as panel_of
 ghost use Rattle.picks.specs.Choosing.{donors_at, old_sum, initial_by, initials_at, picked_at, picks_of, Behind};
 
 use draw::Reader;
+use procedure::Given;
 use reply::Refusal;
 use round::{Donors, Held, Lift, Selection};
 use rows::LaidRound;
@@ -19,14 +20,6 @@ use selection::{Pick, Picks};
 use sheet::Sheet;
 use tally::{FittingSheet, OldRound};
 use weights::Sums;
-
-// What the choice of a round goes by, besides its rows: its donors, where their held lifts are, and its sums.
-#[derive(Clone, Copy)]
-pub struct Given {
-    pub donors: Donors,
-    pub held: Held,
-    pub sums: Sums,
-}
 
 // A way of choosing in a round.
 pub trait Way {
@@ -48,7 +41,7 @@ impl Way for Fourth {
     ghost update = { keyfitz };
 
     fn select(&self, rows: &[u32], given: Given, words: &mut Reader<'_>) -> Option<Selection> {
-        procedure::select(rows, given.donors, given.held, given.sums, words)
+        procedure::select(rows, given, words)
     }
 }
 

@@ -15,6 +15,14 @@ use draw::Reader;
 use round::{Donors, Held, Outcome, Selection};
 use weights::{Scale, Sums, Weighed};
 
+// What the choice of a round goes by, besides its rows: its donors, where their held lifts are, and its sums.
+#[derive(Clone, Copy)]
+pub struct Given {
+    pub donors: Donors,
+    pub held: Held,
+    pub sums: Sums,
+}
+
 // Whether the lift at a place is one of the held lifts.
 pub fn is_held(held: Held, place: usize) -> bool
     ensures { result ≡ is_held (initials held) place }
@@ -91,21 +99,15 @@ fn find_preliminary(s: Scale, held: Held, words: &mut Reader) -> Option<Option<u
     }
 }
 
-// The choice of a round, from its held lifts, its sums and the random words from where the reader stands.
-pub fn select(
-    rows: &[u32],
-    donors: Donors,
-    held: Held,
-    sums: Sums,
-    words: &mut Reader,
-) -> Option<Selection>
-    requires callable { Callable donors (row_lifts rows.now) held }
-    requires has_sums { HasSums donors (row_lifts rows.now) sums }
-    ensures value { reached result words.new.at ≡ selected donors (row_lifts rows.now) (initials held) words.old.words.now words.old.at }
+// The choice of a round, from its rows, what it goes by and the random words from where the reader stands.
+pub fn select(rows: &[u32], given: Given, words: &mut Reader) -> Option<Selection>
+    requires callable { Callable given.donors (row_lifts rows.now) given.held }
+    requires has_sums { HasSums given.donors (row_lifts rows.now) given.sums }
+    ensures value { reached result words.new.at ≡ selected given.donors (row_lifts rows.now) (initials given.held) words.old.words.now words.old.at }
     ensures list { words.new.words ≡ words.old.words }
 {
-    let scale = sums.scaling(donors);
-    match find_preliminary(scale, held, words)? {
+    let scale = given.sums.scaling(given.donors);
+    match find_preliminary(scale, given.held, words)? {
         None => {
             let whole = Weighed {
                 scale: Scale::WHOLLY,
