@@ -1,6 +1,7 @@
 -- The choices gathered round by round are the panel's: those of the rounds before one, and the panel of the rounds from it on, are the whole.
 use Prim.Native.Nat.{ℕ, ◌+◌, ◌≤◌, ◌<◌}
 use mathlib.Core.Path.{◌≡◌, refl, sym, ap, ap₂, ◌∙◌}
+use native.Mathlib.Omega.{arith}
 use mathlib.Core.Bool.{Bool, true}
 use mathlib.Core.List.{List, [], ◌∷◌, ◌++◌, append_assoc, append-nil}
 use lib.Dec.{ltb}
@@ -118,5 +119,5 @@ module _ (update : Update) {ls : List Lift} {rows : List ℕ} {x : Layout} {t : 
         ran ended w q = absurd (cc)
 
 -- the words ended in round r
-pub stopped : {x : Panel} {r : ℕ} → x ≡ short r → (n : ℕ) → (Err (Words r) ≡ picks_of x) × Behind x n
-stopped e n = rw e (refl, tt)
+pub stopped : {x : Panel} {r : ℕ} → x ≡ short r → 1 ≤ r → (n : ℕ) → (Err (Words r) ≡ picks_of x) × Behind x n
+stopped e h n = rw e (refl, omega (arith, h))

@@ -1,5 +1,5 @@
 -- The rounds of a sheet laid out as rows, and the choices of all rounds as the code gathers them.
-use Rattle.std.specs.Prelude.{ℕ, ◌≡◌, Option, None, Some, Result, Ok, Err, List, [], ◌∷◌, eqb, get_or}
+use Rattle.std.specs.Prelude.{ℕ, ◌<◌, ◌≡◌, Option, None, Some, Result, Ok, Err, List, [], ◌∷◌, eqb, get_or}
 use Rattle.probability.specs.Initial.{Initial, elsewhere}
 use Rattle.probability.specs.Pieces.{pieces}
 use Rattle.round.specs.Choice.{outcome}
@@ -55,7 +55,7 @@ abbrev pub picks_of : Panel → Result (List (Option Pick)) Refusal
 picks_of (chosen cs next) = Ok (by_round cs none_chosen)
 picks_of (short r) = Err (Words r)
 
--- where the words did not end, the reader stands behind the last word read
+-- the reader stands behind the last word read; or the words ended in a round, which is one from 1 up
 abbrev pub Behind : Panel → ℕ → Type 0
 Behind (chosen cs next) at = at ≡ next
-Behind (short r) at = Unit {0}
+Behind (short r) at = 0 < r

@@ -5,14 +5,13 @@ ghost use Rattle.std.specs.Prelude.{◌≡◌, IfSome, [], map, ◌+◌, ◌*◌
 ghost use Rattle.draw.specs.Draw.{reached};
 ghost use Rattle.probability.specs.Pieces.{pieces};
 ghost use Rattle.round.specs.Choice.{Update, keyfitz, selected_by};
-ghost use Rattle.round.specs.Rows.{row_length, row_lifts as lifts_of_rows, initial_of, initials, Callable};
-ghost use Rattle.weights.specs.Scaling.{HasSums};
+ghost use Rattle.round.specs.Rows.{row_length, row_lifts as lifts_of_rows, initial_of, initials};
 ghost use Rattle.sheet.specs.Sheet.{most_rounds, lifts as lifts_of_sheet};
 ghost use Rattle.selection.specs.Choice.{with_sums, by_update, panel as panel_of};
 ghost use Rattle.picks.specs.Choosing.{donors_at, old_sum, initial_by, initials_at, picked_at, picks_of, Behind};
 
 use draw::Reader;
-use procedure::Given;
+use procedure::Round;
 use reply::Refusal;
 use round::{Donors, Held, Lift, Selection};
 use rows::LaidRound;
@@ -26,11 +25,9 @@ pub trait Way {
     // The update that it makes of the preliminary lift.
     ghost update: { Update };
 
-    // The choice of a round from its rows.
-    fn select(&self, rows: &[u32], given: Given, words: &mut Reader<'_>) -> Option<Selection>
-        requires callable { Callable given.donors (lifts_of_rows rows.now) given.held }
-        requires has_sums { HasSums given.donors (lifts_of_rows rows.now) given.sums }
-        ensures value { reached result words.new.at ≡ selected_by update given.donors (lifts_of_rows rows.now) (initials given.held) words.old.words.now words.old.at }
+    // The choice of a round.
+    fn select(&self, round: &Round<'_>, words: &mut Reader<'_>) -> Option<Selection>
+        ensures value { reached result words.new.at ≡ selected_by update round.now.donors (lifts_of_rows round.now.rows.now) (initials round.now.held) words.old.words.now words.old.at }
         ensures list { words.new.words ≡ words.old.words };
 }
 
@@ -40,8 +37,8 @@ pub struct Fourth;
 impl Way for Fourth {
     ghost update = { keyfitz };
 
-    fn select(&self, rows: &[u32], given: Given, words: &mut Reader<'_>) -> Option<Selection> {
-        procedure::select(rows, given, words)
+    fn select(&self, round: &Round<'_>, words: &mut Reader<'_>) -> Option<Selection> {
+        procedure::select(round, words)
     }
 }
 
@@ -109,15 +106,13 @@ fn mark_at(rows: &[u32], place: usize) -> u32
     }
 }
 
-// The lift chosen in a round lent as rows: the outcome goes by its own mark.
-fn choose_lift<W: Way>(way: &W, rows: &[u32], given: Given, words: &mut Reader<'_>) -> Option<Pick>
-    requires callable { Callable given.donors (lifts_of_rows rows.now) given.held }
-    requires has_sums { HasSums given.donors (lifts_of_rows rows.now) given.sums }
-    ensures value { reached result words.new.at ≡ picked_at rows.now (selected_by W.update given.donors (lifts_of_rows rows.now) (initials given.held) words.old.words.now words.old.at) }
+// The lift chosen in a round: the outcome goes by its own mark.
+fn choose_lift<W: Way>(way: &W, round: &Round<'_>, words: &mut Reader<'_>) -> Option<Pick>
+    ensures value { reached result words.new.at ≡ picked_at round.now.rows.now (selected_by W.update round.now.donors (lifts_of_rows round.now.rows.now) (initials round.now.held) words.old.words.now words.old.at) }
     ensures list { words.new.words ≡ words.old.words }
 {
-    let selection = way.select(rows, given, words)?;
-    let mark = mark_at(rows, selection.place);
+    let selection = way.select(round, words)?;
+    let mark = mark_at(round.rows, selection.place);
     let held = Sheet::kind(mark) == Sheet::HELD;
     Some(Pick {
         number: Sheet::payload(mark),
@@ -137,20 +132,22 @@ fn select_rounds<W: Way>(
     requires { length rows.old ≡ row_length * length (lifts_of_sheet fitting.now.sheet.words.now) }
     ensures picked { result ≡ picks_of (panel_of (by_update W.update) (lifts_of_sheet fitting.now.sheet.words.now) words.old.words.now words.old.at) }
     ensures behind { Behind (panel_of (by_update W.update) (lifts_of_sheet fitting.now.sheet.words.now) words.old.words.now words.old.at) words.new.at }
+    ensures list { words.new.words ≡ words.old.words }
 {
     let t = &fitting.tallies;
     let layout = rows::lay_out(fitting, rows);
     let mut picks = [None; Sheet::TABLE];
     for r in 1..Sheet::TABLE {
-        let round = layout.rounds[r];
-        let part = &rows[Lift::ROW * round.begin..Lift::ROW * round.end];
+        let laid = layout.rounds[r];
+        let part = &rows[Lift::ROW * laid.begin..Lift::ROW * laid.end];
         if !part.is_empty() {
-            let given = Given {
-                donors: donors_of(&round, &t.old),
-                held: held_of(&round, &layout.seats),
-                sums: sums_of(&round, t.new[r].sum),
+            let round = Round {
+                rows: part,
+                donors: donors_of(&laid, &t.old),
+                held: held_of(&laid, &layout.seats),
+                sums: sums_of(&laid, t.new[r].sum),
             };
-            let Some(pick) = choose_lift(way, part, given, words) else {
+            let Some(pick) = choose_lift(way, &round, words) else {
                 return Err(Refusal::Words(r));
             };
             picks[r] = Some(pick);
@@ -167,6 +164,7 @@ pub fn select_all<W: Way>(
 ) -> Result<Picks, Refusal>
     ensures picked { result ≡ picks_of (panel_of (by_update W.update) (lifts_of_sheet fitting.now.sheet.words.now) words.old.words.now words.old.at) }
     ensures behind { Behind (panel_of (by_update W.update) (lifts_of_sheet fitting.now.sheet.words.now) words.old.words.now words.old.at) words.new.at }
+    ensures list { words.new.words ≡ words.old.words }
 {
     let mut rows = [0u32; Lift::ROW * Sheet::MOST_LIFTS];
     let end = Lift::ROW * fitting.counts.lifts;

@@ -8,6 +8,7 @@ ghost use Rattle.draw.specs.Run.{run, answer};
 ghost use Rattle.round.specs.Round.{growth, G};
 ghost use Rattle.round.specs.Choice.{draw_place, preliminary_by, keyfitz, is_held, outcome as outcome_of, selected};
 ghost use Rattle.round.specs.Rows.{row_lifts, initials, Callable};
+ghost use Rattle.round.proofs.Laws.{callable_prop};
 ghost use Rattle.weights.specs.Scaling.{HasSums, weights_by, Balanced};
 ghost use Rattle.procedure.specs.Preliminary.{proposed, Contested};
 
@@ -15,12 +16,15 @@ use draw::Reader;
 use round::{Donors, Held, Outcome, Selection};
 use weights::{Scale, Sums, Weighed};
 
-// What the choice of a round goes by, besides its rows: its donors, where their held lifts are, and its sums.
+// A round that a choice is made in: its rows, its donors, where their held lifts are, and its sums.
 #[derive(Clone, Copy)]
-pub struct Given {
+pub struct Round<'a> {
+    pub rows: &'a [u32],
     pub donors: Donors,
     pub held: Held,
     pub sums: Sums,
+    pub ghost callable: { Callable donors (row_lifts rows.now) held } by { callable_prop donors (row_lifts rows.now) held },
+    pub ghost has_sums: { HasSums donors (row_lifts rows.now) sums },
 }
 
 // Whether the lift at a place is one of the held lifts.
@@ -99,15 +103,14 @@ fn find_preliminary(s: Scale, held: Held, words: &mut Reader) -> Option<Option<u
     }
 }
 
-// The choice of a round, from its rows, what it goes by and the random words from where the reader stands.
-pub fn select(rows: &[u32], given: Given, words: &mut Reader) -> Option<Selection>
-    requires callable { Callable given.donors (row_lifts rows.now) given.held }
-    requires has_sums { HasSums given.donors (row_lifts rows.now) given.sums }
-    ensures value { reached result words.new.at ≡ selected given.donors (row_lifts rows.now) (initials given.held) words.old.words.now words.old.at }
+// The choice of a round, from the random words from where the reader stands.
+pub fn select(round: &Round, words: &mut Reader) -> Option<Selection>
+    ensures value { reached result words.new.at ≡ selected round.now.donors (row_lifts round.now.rows.now) (initials round.now.held) words.old.words.now words.old.at }
     ensures list { words.new.words ≡ words.old.words }
 {
-    let scale = given.sums.scaling(given.donors);
-    match find_preliminary(scale, given.held, words)? {
+    let rows = round.rows;
+    let scale = round.sums.scaling(round.donors);
+    match find_preliminary(scale, round.held, words)? {
         None => {
             let whole = Weighed {
                 scale: Scale::WHOLLY,
@@ -116,8 +119,8 @@ pub fn select(rows: &[u32], given: Given, words: &mut Reader) -> Option<Selectio
             draw_lift(&whole, false, words)
         }
         Some(place) => {
-            let round = Weighed { scale, rows };
-            update(&round, place, words)
+            let weighed = Weighed { scale, rows };
+            update(&weighed, place, words)
         }
     }
 }

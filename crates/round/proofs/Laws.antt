@@ -9,6 +9,7 @@ use lib.ListN.{length, get_or-map}
 use lib.Dec.{leb, ltb}
 use borrow.Author.Tests.{leb-true, leb-false}
 use Rattle.probability.proofs.Sums.{map_le}
+use Rattle.std.proofs.Props.{props}
 use Rattle.probability.specs.Interval.{pick}
 use Rattle.probability.specs.Initial.{Initial, here, elsewhere}
 use Rattle.probability.specs.Plan.{Plan, done, draw, bind, Every, Drawable, DrawsAtMost}
@@ -16,11 +17,12 @@ use Rattle.probability.specs.Branch.{Branch, absent, present, join, update_or, E
 use Rattle.probability.proofs.Intervals.{pick_some}
 use Rattle.probability.proofs.Fractions.{pos_left}
 use Rattle.probability.proofs.Masses.{every_map, every_after, every_cond}
-use Rattle.round.specs.Round.{lift_at, S, D, old_weight, new_weight, weights, weight_at, whole_sums, WellPosed}
+use Rattle.round.specs.Round.{lift_at, S, D, old_weight, new_weight, weights, weight_at, whole_sums, AreDonors, WellPosed}
 use Rattle.round.specs.Choice.{draw_place, fresh, single, initial_at, first_odds, preliminary_by, preliminary, stay_or, keyfitz, plan_by, plan, outcome}
-use Rattle.round.specs.Rows.{lift_of_measures, Bounded, IfHere, Inside, Stands}
+use Rattle.round.specs.Rows.{lift_of_measures, SumsBounded, Bounded, initials, IfHere, Inside, Stands, Callable}
 use Rattle.round.specs.Law.{Fits64, Weighty, LawsTheorem}
 use Rattle.round.specs.declared.Donors.{Donors}
+use Rattle.round.specs.declared.Held.{Held}
 use Rattle.round.specs.declared.Donors.TheVariants.{None, One, Two}
 use Rattle.round.specs.declared.Lift.{Lift}
 use Rattle.round.specs.declared.Weight.{Weight}
@@ -213,3 +215,29 @@ lawful ds ls =
       chosen = chosen ds ls;
       fits = small ds ls;
     }
+
+-- ---- what a caller shows is a proposition
+
+are_donors_prop : (k : ℕ) (Ts : List ℕ) (ls : List Lift) → IsProp (AreDonors k Ts ls)
+are_donors_prop k [] ls = hlevel props
+are_donors_prop k (T ∷ Ts) ls = let p = are_donors_prop (suc k) Ts ls in hlevel (props, p)
+
+sums_bounded_prop : (Ts : List ℕ) → IsProp (SumsBounded Ts)
+sums_bounded_prop [] = hlevel props
+sums_bounded_prop (T ∷ Ts) = let p = sums_bounded_prop Ts in hlevel (props, p)
+
+inside_prop : (n : ℕ) (x : Initial) → IsProp (Inside n x)
+inside_prop n (here i) = hlevel props
+inside_prop n elsewhere = hlevel props
+
+stands_prop : (Ts : List ℕ) (xs : List Initial) (n : ℕ) → IsProp (Stands Ts xs n)
+stands_prop Ts [] n = hlevel props
+stands_prop [] (x ∷ xs) n = let p = stands_prop [] xs n in hlevel (props, p)
+stands_prop (T ∷ Ts) (x ∷ xs) n = let p = stands_prop Ts xs n in let q = inside_prop n x in hlevel (props, p, q)
+
+pub callable_prop : (ds : Donors) (ls : List Lift) (h : Held) → IsProp (Callable ds ls h)
+callable_prop ds ls h =
+    let p = are_donors_prop 1 (whole_sums ds) ls in
+    let q = sums_bounded_prop (whole_sums ds) in
+    let r = stands_prop (whole_sums ds) (initials h) (length ls) in
+    hlevel (props, p, q, r)

@@ -18,8 +18,8 @@ overflow_mul-part g c = let d = c.loop-r.invariant.lent in omega (arith, rises d
 pub overflow_mul-part-in-loop-r : goal.overflow_mul-part-in-loop-r
 overflow_mul-part-in-loop-r g c = let d = c.loop-r.invariant.lent in omega (arith, few d c.loop-r.auto.r (omega (arith, c.loop-r-test.true)))
 
-pub offset_bounds-rows-round : goal.offset_bounds-rows-round
-offset_bounds-rows-round g c = let d = c.loop-r.invariant.lent in omega (arith, rises d c.loop-r.auto.r (omega (arith, c.loop-r-test.true)), few d c.loop-r.auto.r (omega (arith, c.loop-r-test.true)))
+pub offset_bounds-rows-laid : goal.offset_bounds-rows-laid
+offset_bounds-rows-laid g c = let d = c.loop-r.invariant.lent in omega (arith, rises d c.loop-r.auto.r (omega (arith, c.loop-r-test.true)), few d c.loop-r.auto.r (omega (arith, c.loop-r-test.true)))
 
 pub slice_bounds-part-count : goal.slice_bounds-part-count
 slice_bounds-part-count g c = let d = c.loop-r.invariant.lent in omega (arith, rises d c.loop-r.auto.r (omega (arith, c.loop-r-test.true)))
@@ -42,20 +42,24 @@ held_of-requires-clause-first_named g c = (named c.loop-r.invariant.lent c.loop-
 pub held_of-requires-clause-second_named : goal.held_of-requires-clause-second_named
 held_of-requires-clause-second_named g c = (named c.loop-r.invariant.lent c.loop-r.auto.r (omega (arith, c.loop-r-test.true))).1
 
-pub choose_lift-requires-clause-callable : goal.choose_lift-requires-clause-callable
-choose_lift-requires-clause-callable g c =
-    callable c.loop-r.invariant.lent c.loop-r.auto.r (omega (arith, c.loop-r-test.true)) c.donors_of.ensures c.held_of.ensures (filled c.is_empty.ensures c.if-not-is_empty.true)
-
-pub choose_lift-requires-clause-has_sums : goal.choose_lift-requires-clause-has_sums
-choose_lift-requires-clause-has_sums g c = sums_are c.loop-r.invariant.lent c.loop-r.auto.r (omega (arith, c.loop-r-test.true)) c.donors_of.result c.sums_of.ensures
+pub invariant_of-round : goal.invariant_of-round
+invariant_of-round g c =
+    let d = c.loop-r.invariant.lent in
+    record {
+      callable = callable d c.loop-r.auto.r (omega (arith, c.loop-r-test.true)) c.donors_of.ensures c.held_of.ensures (filled c.is_empty.ensures c.if-not-is_empty.true);
+      has_sums = sums_are d c.loop-r.auto.r (omega (arith, c.loop-r-test.true)) c.donors_of.result c.sums_of.ensures;
+    }
 
 pub returns-in_default-clause-picked : goal.returns-in_default-clause-picked
 returns-in_default-clause-picked g c = let l = c.loop-r.invariant in
-    (stopped (on_none _ l.lent l.going c.loop-r.auto.r (omega (arith, c.loop-r-test.true)) (filled c.is_empty.ensures c.if-not-is_empty.true) c.held_of.result c.donors_of.ensures c.held_of.ensures (ap (λ x. x.now) l.list) _ c.choose_lift.ensures.value c.in_default.is) 0).0
+    (stopped (on_none _ l.lent l.going c.loop-r.auto.r (omega (arith, c.loop-r-test.true)) (filled c.is_empty.ensures c.if-not-is_empty.true) c.held_of.result c.donors_of.ensures c.held_of.ensures (ap (λ x. x.now) l.list) _ c.choose_lift.ensures.value c.in_default.is) c.loop-r.auto.r 0).0
 
 pub returns-in_default-clause-behind : goal.returns-in_default-clause-behind
 returns-in_default-clause-behind g c = let l = c.loop-r.invariant in
-    (stopped (on_none _ l.lent l.going c.loop-r.auto.r (omega (arith, c.loop-r-test.true)) (filled c.is_empty.ensures c.if-not-is_empty.true) c.held_of.result c.donors_of.ensures c.held_of.ensures (ap (λ x. x.now) l.list) _ c.choose_lift.ensures.value c.in_default.is) c.choose_lift.new.words.at).1
+    (stopped (on_none _ l.lent l.going c.loop-r.auto.r (omega (arith, c.loop-r-test.true)) (filled c.is_empty.ensures c.if-not-is_empty.true) c.held_of.result c.donors_of.ensures c.held_of.ensures (ap (λ x. x.now) l.list) _ c.choose_lift.ensures.value c.in_default.is) c.loop-r.auto.r c.choose_lift.new.words.at).1
+
+pub returns-in_default-clause-list : goal.returns-in_default-clause-list
+returns-in_default-clause-list g c = c.choose_lift.ensures.list ∙ c.loop-r.invariant.list
 
 pub loop-r-preserved : goal.loop-r-preserved
 loop-r-preserved g c =
@@ -81,3 +85,6 @@ returns-clause-picked g c = (going_end c.loop-r.invariant.going (omega (arith, c
 
 pub returns-clause-behind : goal.returns-clause-behind
 returns-clause-behind g c = (going_end c.loop-r.invariant.going (omega (arith, c.loop-r-test.false))).1
+
+pub returns-clause-list : goal.returns-clause-list
+returns-clause-list g c = c.loop-r.invariant.list
