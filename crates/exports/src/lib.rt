@@ -14,12 +14,13 @@ ghost use Rattle.carry.specs.Reply.{reply_next, output_next, lent_sheet};
 ghost use Rattle.exports.specs.Reply.{DrawReply, donors_from, held_from, RoundReply, CheckReply};
 
 use draw::Reader;
-use procedure::Given;
+use procedure::Round;
 use reply::{Done, Refusal, Reply};
 use round::{Donors, Held};
 use weights::Sums;
 
-// `draw::Reader::draw` from position `at` on: true, the value and the next position written; or false, nothing written, where the words end. A bound of 0 has no value, so every word is passed over.
+// `draw::Reader::draw` from position `at` on: true, the value and the next position written; or false, nothing written, where the words end.
+// A bound of 0 has no value, so every word is passed over.
 #[unsafe(no_mangle)]
 pub extern "C" fn jengpilo_draw_below(
     words: &[u64],
@@ -87,9 +88,14 @@ pub extern "C" fn jengpilo_round_select(
     let donors = donors_from(donors, t1, t2);
     let held = held_from(held, i, j);
     let sums = Sums::of(rows, donors);
+    let round = Round {
+        rows,
+        donors,
+        held,
+        sums,
+    };
     let mut reader = Reader::new(words, at);
-    let given = Given { donors, held, sums };
-    let Some(chosen) = procedure::select(rows, given, &mut reader) else {
+    let Some(chosen) = procedure::select(&round, &mut reader) else {
         return false;
     };
     let was_held = procedure::is_held(held, chosen.place);

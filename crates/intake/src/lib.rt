@@ -2,7 +2,6 @@
 #![tactic(auto)]
 
 ghost use Rattle.std.specs.Prelude.{◌≡◌, ◌≤◌, length, All, IfSome};
-ghost use Rattle.reply.specs.Reply.{replied, unless_refused};
 ghost use Rattle.reply.specs.Refusal.{reply_of};
 ghost use Rattle.sheet.specs.Sheet.{largest_sum, new_kind, place_of, place_word, lifts};
 ghost use Rattle.counts.specs.Counts.{numbers_of, counts_reply, counts_output};

@@ -1,7 +1,7 @@
 // A line of the centre's text, read from the front.
-ghost use Rattle.std.specs.Prelude.{◌≡◌, true, false, ◌<◌, drop, MatchOption};
+ghost use Rattle.std.specs.Prelude.{◌≡◌, false, ◌<◌, drop, MatchOption};
 ghost use Rattle.counts.specs.Text.{value, empty, is_number, malformed, count_line};
-ghost use Rattle.intake.specs.Positions.{cap, clamp, span, leading, first_line, extent, NumberRead, EndingRead, LineRead};
+ghost use Rattle.intake.specs.Positions.{cap, clamp, span, leading, first_line, NumberRead, EndingRead, LineRead};
 
 // The largest lift number and the largest count of a line.
 const LARGEST_LIFT: u32 = 268435455;

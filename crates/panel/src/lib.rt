@@ -1,12 +1,11 @@
 // The whole choice: one lift for each new round of a sheet ("The reply" and "Refused because of what was lent" of document 01).
 #![tactic(auto)]
 
-ghost use Rattle.std.specs.Prelude.{◌≡◌, List, ℕ, ◌≤◌, length};
+ghost use Rattle.std.specs.Prelude.{◌≡◌, ◌≤◌, length};
 ghost use Rattle.reply.specs.Reply.{unless_refused};
 ghost use Rattle.reply.specs.Refusal.{reply_of, refused_or};
 ghost use Rattle.reply.specs.declared.Reply.{Reply};
 ghost use Rattle.sheet.specs.Sheet.{most_rounds, lifts as lifts_of_sheet};
-ghost use Rattle.sheet.specs.Reading.{Legible};
 ghost use Rattle.sheet.specs.Lift.{New};
 ghost use Rattle.tally.specs.Rounds.{in_use};
 ghost use Rattle.tally.specs.Law.{Fitting};

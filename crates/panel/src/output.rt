@@ -1,5 +1,5 @@
 // The output: two words for each lift chosen.
-ghost use Rattle.std.specs.Prelude.{◌≡◌, ◌^◌, ◌≤◌, ◌<◌, length};
+ghost use Rattle.std.specs.Prelude.{◌≡◌, ◌≤◌, length};
 ghost use Rattle.sheet.specs.Sheet.{most_rounds};
 ghost use Rattle.selection.specs.Choice.{pair};
 ghost use Rattle.panel.specs.Writing.{PairFits, PairsFit, with_pairs};

@@ -1,7 +1,7 @@
 // The choices of all new rounds of a fitting sheet, round by round ("One round" of document 01, for each of them).
 #![tactic(auto)]
 
-ghost use Rattle.std.specs.Prelude.{◌≡◌, IfSome, [], map, ◌+◌, ◌*◌, ◌≤◌, ◌<◌, length, get_or};
+ghost use Rattle.std.specs.Prelude.{◌≡◌, IfSome, [], map, ◌*◌, ◌≤◌, ◌<◌, length, get_or};
 ghost use Rattle.draw.specs.Draw.{reached};
 ghost use Rattle.probability.specs.Pieces.{pieces};
 ghost use Rattle.round.specs.Choice.{Update, keyfitz, selected_by};

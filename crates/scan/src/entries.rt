@@ -52,7 +52,7 @@ pub fn size(sheet: LegibleSheet<'_>) -> usize
     Sheet::payload(words[words.len() - 1]) as usize
 }
 
-// The words behind those of a held lift: a rare way, kept out of the loop, so that the walk goes on before the word is read that says whether a lift is held.
+// The words behind those of a held lift: a rare way, kept out of the loop, so that the walk goes on before it is known whether a lift is held.
 #[cold]
 #[inline(never)]
 fn behind_held<'a>(words: &'a [u32]) -> &'a [u32]

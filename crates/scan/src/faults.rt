@@ -1,7 +1,7 @@
 // The refusals that a word meets, after the words before it: 2 to 6, and 16.
-ghost use Rattle.std.specs.Prelude.{◌≡◌, cond, ◌≤◌};
+ghost use Rattle.std.specs.Prelude.{◌≡◌, ◌≤◌};
 ghost use Rattle.sheet.specs.Sheet.{longest};
-ghost use Rattle.sheet.specs.Reading.{start_state, next_state as next_of, may_follow as follows_of, misnumbered as misnumbered_of, is_place, too_large as too_large_of, beyond as beyond_of, misplaced as misplaced_of, uncounted_newcomer as uncounted_newcomer_of, miscounted as miscounted_of, mismarked as mismarked_of, fault, unless_fault, sound, reading_of};
+ghost use Rattle.sheet.specs.Reading.{next_state as next_of, may_follow as follows_of, misnumbered as misnumbered_of, is_place, too_large as too_large_of, beyond as beyond_of, misplaced as misplaced_of, uncounted_newcomer as uncounted_newcomer_of, miscounted as miscounted_of, mismarked as mismarked_of, fault, unless_fault, sound, reading_of};
 ghost use Rattle.scan.specs.Scan.{state_of};
 
 use reply::Refusal;

@@ -1,6 +1,5 @@
-#![tactic(auto)]
-
 // The whole choice as a definition, and demand 3 as a theorem of it; of code the types of the lifts chosen alone.
+#![tactic(auto)]
 
 use sheet::Sheet;
 

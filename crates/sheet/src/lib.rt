@@ -5,8 +5,8 @@ ghost use Rattle.std.specs.Prelude.{◌≡◌, ◌+◌, ◌*◌, ◌^◌, ◌<�
 ghost use Rattle.sheet.specs.Sheet.{kind as kind_of, payload as payload_of, place_of, word as word_of};
 ghost use Rattle.sheet.specs.Reading.{Legible};
 
-// A sheet that fits: how many lifts and how many new rounds it has.
-#[derive(Clone, Copy, Debug, PartialEq, Eq)]
+// How many lifts and how many new rounds a sheet has.
+#[derive(Clone, Copy)]
 pub struct Sheet {
     pub lifts: usize,
     pub rounds: usize,
@@ -95,7 +95,7 @@ impl Sheet {
 }
 
 // A lift read from its words: its number, old round and measure, new round and the new measure that counts, and whether it is held.
-#[derive(Clone, Copy, Debug, PartialEq, Eq)]
+#[derive(Clone, Copy)]
 pub struct Entry {
     pub number: u32,
     pub from: usize,

@@ -1,7 +1,7 @@
 // The tables of a sheet by round, gathered in one walk, and the verdict on a sheet from them ("Refused because of the sheet" of document 01).
 #![tactic(auto)]
 
-ghost use Rattle.std.specs.Prelude.{◌≡◌, List, [], ◌∷◌, ◌++◌, ℕ, ◌≤◌, Bool, ltb, length, get_or, drop, count_by, IfOk};
+ghost use Rattle.std.specs.Prelude.{◌≡◌, List, [], ◌∷◌, ◌++◌, ◌≤◌, Bool, ltb, get_or, drop, count_by, IfOk};
 ghost use Rattle.std.specs.Fn.{FnReturnsAt};
 ghost use Rattle.sheet.specs.Sheet.{most_rounds, Lift, lifts};
 ghost use Rattle.sheet.specs.Lift.{entry_of};
