@@ -4,14 +4,14 @@ use mathlib.Core.Path.{◌≡◌, refl, sym, ap, ◌∙◌}
 use mathlib.Core.Bool.{Bool, true, false}
 use mathlib.Core.List.{List, [], ◌∷◌, ◌++◌, append_assoc}
 use native.Mathlib.Omega.{arith}
-use lib.ListN.{length, get_or, set, take, drop, length-append, length-drop, length-map}
+use lib.ListN.{length, get_or, set, take, drop, length-append, length-drop}
 use lib.Seq.{sets-eq, length-take-le, take_at, drop_at, drop-drop}
 use borrow.Author.Tests.{eq-eqb, ne_eqb}
 use borrow.Rule.Slice.PartMut.{put_mid}
 use Rattle.sheet.specs.Sheet.{most_lifts, most_rounds, held_kind, end_kind, Lift, lifts, word, lift_words, words_then, sheet_of}
 use Rattle.sheet.specs.Reading.{Legible}
 use Rattle.sheet.specs.Lift.{entry_of}
-use Rattle.sheet.specs.Law.{AllWellFormed, LiftWellFormed, WellFormed}
+use Rattle.sheet.specs.Law.{AllWellFormed, LiftWellFormed}
 use Rattle.reply.specs.Reply.{onto}
 use Rattle.tally.specs.Tables.{table, new_round}
 use Rattle.tally.specs.declared.NewRound.{NewRound}
@@ -99,9 +99,6 @@ module _ (held : Lift → Bool) where
     pub is : next ≡ onto done room
     pub long : length done ≡ k
     pub ahead : done ++ words_then (carried_on held left) (end_of ls) ≡ sheet_of (carried_on held ls)
-
-  pub writing_none : {ls : List Lift} {room : List ℕ} → WellFormed ls → Writing ls ls room room 0
-  writing_none {ls} w = record { before = 0; listed = w.listed; done = []; is = refl; long = refl; ahead = ap (λ n. words_then (carried_on held ls) (word end_kind n ∷ [])) (sym (length-map (remaining ls) (carried held))) }
 
   -- the lift that is read is the first of those left
   pub writing_first : {ls left rest : List Lift} {room next : List ℕ} {k : ℕ} {e : Entry} → Writing ls left room next k → (f : FirstLift left e rest) → Writing ls (f.lift ∷ rest) room next k

@@ -1,9 +1,10 @@
 -- The numbers of a line, and the new measures of lifts by lines, are small.
-use Prim.Native.Nat.{ℕ, ◌^◌, ◌≤◌, ◌<◌}
+use Prim.Native.Nat.{ℕ, ◌≤◌}
 use mathlib.Core.Path.{◌≡◌, refl}
-use mathlib.Core.Bool.{Bool, true, false, cond, not, ◌&&◌, false≢true}
+use mathlib.Core.Bool.{Bool, true, false, cond, not, ◌&&◌}
 use mathlib.Core.List.{List, [], ◌∷◌}
 use Rattle.std.specs.Prelude.{Some}
+use Rattle.std.proofs.lemmas.Bool.{and_parts}
 use native.Mathlib.Omega.{arith}
 use lib.Dec.{eqb}
 use borrow.Author.Tests.{leb-true}
@@ -11,17 +12,13 @@ use Rattle.sheet.specs.Sheet.{largest_sum}
 use Rattle.counts.specs.Text.{before_comma, behind_comma, all_digits, value, empty, is_number, largest_lift, largest_count, CountLine, counted, malformed, count_line}
 use Rattle.counts.specs.Counts.{hundreds, measure_by, measure_for}
 
-pub and_split : (a b : Bool) → (a && b) ≡ true → (a ≡ true) × (b ≡ true)
-and_split true b h = (refl, h)
-and_split false b h = absurd (false≢true h)
-
 -- a line's numbers are small
 entry_small : (l : List ℕ) {n c : ℕ} → count_line l ≡ counted n c → (n ≤ largest_lift) × (c ≤ largest_count)
 unfolding count_line
 entry_small l {n} {c} e = go (is_number largest_lift (before_comma l)) refl (is_number largest_count (behind_comma l)) refl e
   where
     within : (limit : ℕ) (bs : List ℕ) → is_number limit bs ≡ true → value bs ≤ limit
-    within limit bs h = leb-true (value bs) limit (and_split (all_digits bs) _ (and_split (not (empty bs)) _ h).1).1
+    within limit bs h = leb-true (value bs) limit (and_parts (all_digits bs) _ (and_parts (not (empty bs)) _ h).1).1
 
     go : (a : Bool) → is_number largest_lift (before_comma l) ≡ a → (b : Bool) → is_number largest_count (behind_comma l) ≡ b
         → cond (a && b) (counted (value (before_comma l)) (value (behind_comma l))) malformed ≡ counted n c → (n ≤ largest_lift) × (c ≤ largest_count)
@@ -31,9 +28,6 @@ entry_small l {n} {c} e = go (is_number largest_lift (before_comma l)) refl (is_
         (omega (arith, within largest_lift (before_comma l) h), omega (arith, within largest_count (behind_comma l) k))
     go true h false k q = let z : ◌≡◌ {A = ℕ} 0 1 = cc in absurd (omega arith)
     go false h b k q = let z : ◌≡◌ {A = ℕ} 0 1 = cc in absurd (omega arith)
-
-pub lift_small : (l : List ℕ) {n c : ℕ} → count_line l ≡ counted n c → n < 2 ^ 32
-lift_small l e = omega (arith, (entry_small l e).0)
 
 pub count_small : (l : List ℕ) {n c : ℕ} → count_line l ≡ counted n c → c ≤ largest_count
 count_small l e = (entry_small l e).1

@@ -57,9 +57,6 @@ pub record Narrowed (ns : List ℕ) (n low size : ℕ) : Type 0 where
   pub below : (j : ℕ) → j < low → get_or ns j 0 < n
   pub above : (j : ℕ) → low + size ≤ j → j < length ns → n < get_or ns j 0
 
-pub narrowed_none : (ns : List ℕ) (n : ℕ) → length ns ≤ most_lifts → Narrowed ns n 0 4096
-narrowed_none ns n few = record { inside = omega arith; below = λ j h. absurd (omega arith); above = λ j h k. absurd (omega arith) }
-
 module _ {ns : List ℕ} {n : ℕ} (up : RisingAbove 0 ns) {low size : ℕ} (d : Narrowed ns n low size) where
   -- where the middle is beyond the numbers
   pub narrowed_past : 1 < size → length ns ≤ low + size / 2 → Narrowed ns n low (size - size / 2)

@@ -5,7 +5,7 @@ use mathlib.Core.Bool.{Bool, true, false, cond, ◌||◌, and-false}
 use mathlib.Core.List.{List, [], ◌∷◌, ◌++◌, map, append_assoc, append-nil}
 use native.Mathlib.Omega.{arith}
 use lib.Dec.{eqb}
-use lib.ListN.{length, get_or, set, drop, replicate, length-append, length-map, length-drop}
+use lib.ListN.{length, get_or, set, drop, replicate, length-append, length-drop}
 use borrow.Author.Tests.{eqb-true, eqb-false, eq-eqb, ne_eqb}
 use Rattle.std.specs.Prelude.{Option, Some, None, Ok, Err, All, IfSome, is_some, MatchOption}
 use Rattle.std.specs.Int.{div_ceil}
@@ -149,9 +149,6 @@ unfolding among measure_for
 kept_none text ns e = record { done = []; had = []; parted = refl; same = refl; many = refl; heard = λ n. refl; filled = e ∙ no_measures ns; few = omega arith }
 
 module _ {text ns : List ℕ} {ms : List (Option ℕ)} {rest : List ℕ} {i : ℕ} (d : LinesKept text ns ms rest i) where
-  pub kept_length : length ms ≡ length ns
-  kept_length = rw d.filled (length-map ns (measure_for d.done))
-
   pub kept_end : length rest < 1 → AllTaken ns (lines text) i ms
   unfolding lines_from lines
   kept_end h = go rest h d.same d.parted

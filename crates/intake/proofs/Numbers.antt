@@ -1,20 +1,20 @@
 -- Digits read one by one: clamping after each digit is clamping the number. The laws of the loop over digits, and of a number's ways out.
 use Prim.Native.Nat.{ℕ, suc, min, ◌+◌, ◌*◌, ◌-◌, ◌≤◌, ◌<◌}
 use mathlib.Core.Path.{◌≡◌, refl, sym, ap, ap₂, ◌∙◌}
-use mathlib.Core.Bool.{Bool, true, false, cond, not, ◌&&◌, and-false}
+use mathlib.Core.Bool.{Bool, true, false, cond, ◌&&◌}
 use mathlib.Core.List.{List, [], ◌∷◌}
 use native.Mathlib.Omega.{arith}
 use lib.Dec.{leb, ltb}
 use lib.ListN.{length, get_or, take, drop, length-drop}
 use lib.Seq.{take_all}
-use borrow.Author.Tests.{ltb-true, ltb-false, leb-true, le-leb, lt-leb}
-use Rattle.std.proofs.Math.Nat.{min-eq_left, min-eq_right, min-le_left, min-le_right}
-use Rattle.counts.specs.Text.{is_digit, all_digits, value_from, value, empty, is_number}
-use Rattle.counts.proofs.Small.{and_split}
+use borrow.Author.Tests.{ltb-true, ltb-false, leb-true, le-leb}
+use Rattle.std.proofs.lemmas.Bool.{and_parts}
+use Rattle.std.proofs.Math.Nat.{min-eq_left, min-eq_right, min-le_left}
+use Rattle.counts.specs.Text.{is_digit, all_digits, value_from, value, empty}
 use Rattle.intake.specs.Positions.{cap, clamp, span, leading, NumberRead}
 
 pub digit_low : (b : ℕ) → is_digit b ≡ true → 48 ≤ b
-digit_low b h = leb-true 48 b (and_split (leb 48 b) (leb b 57) h).0
+digit_low b h = leb-true 48 b (and_parts (leb 48 b) (leb b 57) h).0
 
 -- ---- clamping
 
@@ -39,9 +39,6 @@ pub record DigitsRead (bs : List ℕ) (v : ℕ) (rest : List ℕ) : Type 0 where
   pub same : clamp (value_from v (leading rest)) ≡ clamp (value (leading bs))
   pub ends : drop (span rest) rest ≡ drop (span bs) bs
   pub small : v ≤ cap
-
-pub reading_none : (bs : List ℕ) → DigitsRead bs 0 bs
-reading_none bs = record { same = refl; ends = refl; small = omega arith }
 
 span_digit : (b : ℕ) (bs : List ℕ) → is_digit b ≡ true → span (b ∷ bs) ≡ suc (span bs)
 unfolding span
@@ -131,17 +128,6 @@ module _ (limit : ℕ) (bs : List ℕ) {v : ℕ} (e : v ≡ clamp (value (leadin
   -- whether a digit stands in front is whether bytes are behind it
   left : length rest + span bs ≡ length bs
   left = rw (r, length-drop) (omega (arith, span_le bs))
-
-  pub no_digits : length rest ≡ length bs → is_number limit (leading bs) ≡ false
-  no_digits h =
-      let s : span bs ≡ 0 = omega (arith, left) in
-      rw s
-
-  pub above_limit : limit < v → is_number limit (leading bs) ≡ false
-  above_limit h =
-      let w = value (leading bs) in
-      let l : leb w limit ≡ false = lt-leb w limit (omega (arith, min-le_right cap w, e)) in
-      rw (l, and-false (all_digits (leading bs)), and-false (not (empty (leading bs))))
 
   pub within_limit : limit < cap → (length rest ≡ length bs → ⊥) → v ≤ limit → NumberRead limit bs v rest
   within_limit c n h =

@@ -1,21 +1,21 @@
 -- Walks over the lifts of a legible sheet: their numbers gathered, and new measures put in.
-use Prim.Native.Nat.{ℕ, zero, suc, ◌+◌, ◌≤◌, ◌<◌}
+use Prim.Native.Nat.{ℕ, suc, ◌+◌, ◌≤◌, ◌<◌}
 use mathlib.Core.Path.{◌≡◌, refl, sym, ap, ◌∙◌}
 use mathlib.Core.Bool.{Bool, true, false}
-use mathlib.Core.List.{List, [], ◌∷◌, ◌++◌, append_assoc, append-nil}
+use mathlib.Core.List.{List, [], ◌∷◌, ◌++◌, append_assoc}
+use native.Mathlib.Nat.{add-sub_cancel_left}
 use native.Mathlib.Numerals.{add-one}
 use native.Mathlib.Omega.{arith}
 use lib.Dec.{ltb}
-use lib.ListN.{length, get_or, set, take, drop, drop_of_length-le, length-set, length-append, length-drop}
-use lib.Seq.{drop_at, drop-cons, get_or-drop, take-suc-set, take_all}
+use lib.ListN.{length, get_or, set, take, drop, drop_of_length-le, length-append, length-drop}
+use lib.Seq.{drop_at, drop-cons, get_or-drop}
 use borrow.Author.Tests.{ltb-true, ltb-false}
 use Rattle.std.specs.Prelude.{Option, Some, None}
+use Rattle.std.proofs.lemmas.List.{set-append_right}
 use Rattle.probability.specs.Sum.{indicator}
 use Rattle.sheet.specs.Sheet.{new_kind, end_kind, place_of, Lift, lift_of, lifts, word, place_word, lift_words, words_then, sheet_of}
 use Rattle.sheet.specs.Reading.{Legible}
-use Rattle.sheet.proofs.Walks.{words_left, Between, between_none, Turn, turn, last, inside, moved, behind as past}
-use Rattle.sheet.specs.declared.Entry.{Entry}
-use Rattle.scan.specs.Lifts.{FirstLift}
+use Rattle.sheet.proofs.Walks.{words_left, Between, between_none, Turn, turn, last, inside, behind as past}
 use Rattle.counts.specs.Counts.{numbers_of, remeasured, measured_by}
 use Rattle.intake.specs.Positions.{lifts_with}
 
@@ -42,31 +42,7 @@ pub record Numbering (ls : List Lift) (ns : List ℕ) (left : List Lift) (k : �
   pub long : length ns ≡ length ls
   pub many : k + length left ≡ length ls
 
-pub numbering_none : (ls : List Lift) (ns : List ℕ) → length ns ≡ length ls → Numbering ls ns ls 0
-numbering_none ls ns e = record { done = refl; long = e; many = omega arith }
-
-module _ {ls : List Lift} {ns : List ℕ} {left : List Lift} {k : ℕ} (d : Numbering ls ns left k) where
-  pub numbering_room : {e : Entry} {rest : List Lift} → FirstLift left e rest → k < length ns
-  numbering_room f = omega (arith, d.many, d.long, ap length f.first)
-
-  pub numbering_turn : {e : Entry} {rest : List Lift} → FirstLift left e rest → Numbering ls (set ns k e.number) rest (k + 1)
-  numbering_turn {e} {rest} f =
-      let first = f.first in
-      let number : e.number ≡ f.lift.number = ap (λ e. e.number) f.read in
-      record {
-        done = rw (add-one k, take-suc-set ns k e.number (numbering_room f), append_assoc, number) (rw first at d.done);
-        long = rw (length-set) d.long;
-        many = omega (arith, ap length first, d.many);
-      }
-
-  pub numbering_end : left ≡ [] → ns ≡ numbers_of ls
-  numbering_end e = sym (append-nil ns) ∙ (rw (take_all k ns (omega (arith, ap length e, d.many, d.long)), e) at d.done)
-
 -- ---- the measures
-
-set_append : (xs ys : List ℕ) (k v : ℕ) → set (xs ++ ys) (length xs + k) v ≡ xs ++ set ys k v
-set_append [] ys k v = let e : zero + k ≡ k = omega arith in rw e
-set_append (x ∷ xs) ys k v = let e : suc (length xs) + k ≡ suc (length xs + k) = omega arith in rw e (ap (λ l. x ∷ l) (set_append xs ys k v))
 
 -- a lift's words with another measure
 words_with : (l : Lift) (m : ℕ) (rest : List ℕ) → set (lift_words l ++ rest) 2 (place_word new_kind (record { round = l.new.round; measure = m })) ≡ lift_words (remeasured l m) ++ rest
@@ -119,9 +95,6 @@ module _ {ws : List ℕ} {ms : List (Option ℕ)} {out : List ℕ} {i k : ℕ} (
   pub putting_room : k < length ms → i + 3 < length out
   putting_room h = omega (arith, (putting_at h).room, putting_length)
 
-  pub putting_moved : k < length ms → {m : ℕ} → m ≡ indicator (lift_of (drop i out)).held → i + (3 + m) ≤ length out
-  putting_moved h {m} e = rw putting_length (moved (putting_at h) (rw putting_drop at e))
-
   read_new : get_or out (i + 2) 0 ≡ get_or (drop i ws) 2 0
   read_new = rw (← putting_drop) (sym (get_or-drop i out 2 0))
 
@@ -157,7 +130,7 @@ module _ {ws : List ℕ} {ms : List (Option ℕ)} {out : List ℕ} {i k : ℕ} (
           → (rest : List ℕ) → drop i ws ≡ lift_words l ++ rest → set out (i + 2) w ≡ d.front ++ (lift_words (remeasured l x) ++ rest)
       at_front l w z rest q =
           let s = d.size in
-          rw (d.is, q, ← s, set_append d.front (lift_words l ++ rest) 2 w) (ap (λ xs. d.front ++ xs) (rw z (words_with l x rest)))
+          rw (d.is, q, ← s, set-append_right d.front (lift_words l ++ rest) _ (length d.front + 2) w refl (omega arith), add-sub_cancel_left) (ap (λ xs. d.front ++ xs) (rw z (words_with l x rest)))
 
   pub putting_end : length ms ≤ k → out ≡ sheet_of (lifts_with (lifts ws) ms)
   unfolding words_then lifts_with

@@ -44,9 +44,6 @@ pub record PairsWritten (picks : List (Option Pick)) (old out : List ℕ) (start
   pub same : done ++ pairs_from r (drop r picks) ≡ pairs picks
   pub is : out ≡ done ++ drop start old
 
-pub written_none : (picks : List (Option Pick)) (old : List ℕ) → PairsWritten picks old old 0 0
-written_none picks old = record { done = []; long = refl; kept = refl; same = refl; is = refl }
-
 module _ {picks : List (Option Pick)} {old out : List ℕ} {start r : ℕ} (w : PairsWritten picks old out start r) (h : r < length picks) where
   -- the rounds from r up are round r and those behind it
   here : drop r picks ≡ get_or picks r None ∷ drop (r + 1) picks

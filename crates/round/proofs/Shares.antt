@@ -1,13 +1,14 @@
 -- The shares of a round by any exact update: by total probability over the preliminary lift, which comes with its old weight (Preliminaries) and is updated, or a
 -- lift is drawn fresh.
-use Prim.Native.Nat.{ℕ, zero, suc, ◌*◌, ◌<◌}
+use Prim.Native.Nat.{ℕ, ◌*◌, ◌<◌}
 use mathlib.Core.Path.{◌≡◌, refl, sym, ap, ◌∙◌}
 use mathlib.Core.Bool.{true, false}
-use mathlib.Core.List.{List, [], ◌∷◌, map}
+use mathlib.Core.List.{List, map}
 use native.Mathlib.Nat.{mul-pos}
 use native.Mathlib.Omega.{arith}
-use lib.ListN.{length, get_or, length-map}
+use lib.ListN.{length, length-map}
 use lib.Dec.{eqb}
+use Rattle.std.proofs.lemmas.List.{get_or-map}
 use Rattle.probability.specs.Fraction.{◌//◌, ◌⊕◌, ◌⊗◌, ◌≈◌, sum}
 use Rattle.probability.specs.Plan.{Every, Drawable, paths, weight, mass}
 use Rattle.probability.specs.Branch.{Branch, absent, present, join, update_or, TakenBelow, taken_mass, presence}
@@ -27,15 +28,10 @@ use Rattle.round.proofs.Preliminaries.{Knows, by_donors, knows}
 
 -- ---- the round's weights by place
 
-get_or_map_in : {A B : Type 0} (f : A → B) (d : A) (e : B) (xs : List A) (i : ℕ) → i < length xs → get_or (map f xs) i e ≡ f (get_or xs i d)
-get_or_map_in f d e [] i l = absurd (omega arith)
-get_or_map_in f d e (x ∷ xs) zero l = refl
-get_or_map_in f d e (x ∷ xs) (suc i) l = get_or_map_in f d e xs i (omega arith)
-
 pub weight_at_lem : (ds : Donors) (ls : List Lift) (i : ℕ) → i < length ls
     → weight_at (weights ds ls) i ≡ record { old = old_weight ds ls (lift_at ls i); new = new_weight ds ls (lift_at ls i) }
 unfolding weights
-weight_at_lem ds ls i l = get_or_map_in _ (record { old = 0; donor = 0; new = 0 }) _ ls i l
+weight_at_lem ds ls i l = get_or-map _ ls i (record { old = 0; donor = 0; new = 0 }) _ l
 
 pub length_weights : (ds : Donors) (ls : List Lift) → length (weights ds ls) ≡ length ls
 unfolding weights
@@ -54,7 +50,7 @@ every_fresh ls p = (p, λ _ _. tt)
 mass_fresh : (ls : List Lift) (j : ℕ) → j < length ls → 0 < S ls → mass (chooses j) (fresh ls) ≈ (lift_at ls j).new // S ls
 unfolding draw_place S
 mass_fresh ls j l p =
-    rw (get_or_map_in (λ x. x.new) (record { old = 0; donor = 0; new = 0 }) 0 ls j l) at
+    rw (get_or-map (λ x. x.new) ls j (record { old = 0; donor = 0; new = 0 }) 0 l) at
     (mass_hits (chooses j) (map (λ x. x.new) ls) (λ i. selection i false) j (rw (length-map ls (λ x. x.new)) l) p (λ i. refl))
 
 -- ---- a round with a donor

@@ -1,23 +1,18 @@
 -- The answer to words alone: legible words meet no refusal, and one law for each way out.
 use Prim.Native.Nat.{ℕ, zero, suc, ◌+◌, ◌≤◌, ◌<◌}
 use mathlib.Core.Path.{◌≡◌, refl, sym}
-use mathlib.Core.Bool.{Bool, true, false, cond, ◌||◌, or-true}
+use mathlib.Core.Bool.{Bool, true, false, cond, ◌||◌}
 use mathlib.Core.List.{List, [], ◌∷◌}
 use native.Mathlib.Omega.{arith}
-use mathlib.Core.Logic.{◌⊎◌, inl, inr}
 use lib.Dec.{eqb, ltb}
 use lib.ListN.{length}
-use borrow.Author.Tests.{eq-eqb, ne_eqb, lt-ltb, le-ltb, ltb-false}
+use borrow.Author.Tests.{ne_eqb, le-ltb, ltb-false}
 use Rattle.reply.specs.Reply.{numbered}
 use Rattle.sheet.specs.Sheet.{longest, end_kind}
 use Rattle.sheet.specs.Reading.{ScanState, mislong, next_state, fault, Reading, faulty, sound, unless_fault, read_from, start_state, reading, of_words, Legible}
 use Rattle.sheet.proofs.Trips.{not_ended}
 
 module _ (ws : List ℕ) where
-  pub at_length : (length ws ≡ 0) ⊎ (longest < length ws) → faulty (numbered 1 (length ws)) ≡ of_words ws
-  at_length (inl h) = rw (eq-eqb (length ws) 0 h)
-  at_length (inr h) = rw (lt-ltb longest (length ws) h, or-true (eqb (length ws) 0))
-
   pub at_reading : {r : Reading} → (length ws ≡ 0 → ⊥) → length ws ≤ longest → r ≡ reading ws → r ≡ of_words ws
   at_reading some few e = rw (ne_eqb (length ws) 0 some, le-ltb longest (length ws) few) e
 

@@ -4,11 +4,13 @@ use Prim.Native.Nat.{ℕ, zero, suc, ◌+◌, ◌^◌, ◌≤◌, ◌<◌}
 use mathlib.Core.Path.{◌≡◌, refl, sym, ap, ap₂, ◌∙◌}
 use mathlib.Core.Bool.{Bool, true, false, cond, not, ◌&&◌, ◌||◌, true≢false, false≢true, not-eq-not, and-eq-true_iff}
 use mathlib.Core.List.{List, [], ◌∷◌, ◌++◌}
+use mathlib.Core.Logic.{⊎_elim}
 use native.Mathlib.Nat.{zero-add}
 use native.Mathlib.Omega.{arith}
 use lib.ListN.{length, get_or}
 use lib.Dec.{eqb, ltb}
 use borrow.Author.Tests.{eqb-true, eqb-false, eq-eqb, ne_eqb, leb-false, lt-leb, ltb-false, le-ltb, not-false}
+use Rattle.std.proofs.lemmas.Bool.{or_parts, or_cases}
 use Rattle.sheet.specs.Sheet.{most_lifts, most_rounds, largest_sum, not_counted, kind, payload, lift_kind, old_kind, new_kind, held_kind, end_kind, Place, place_of, Lift, lifts, word, place_word, lift_words, words_then, sheet_of}
 use Rattle.sheet.specs.Reading.{ScanState, start_state, next_state, may_follow, out_of_sequence, misnumbered, is_place, too_large, beyond, misplaced, uncounted_newcomer, miscounted, mismarked, fault, Reading, sound, unless_fault, read_from}
 use Rattle.sheet.specs.Law.{PlaceWellFormed, LiftWellFormed, AllWellFormed, WellFormed, ReadBackTheorem, WrittenBackTheorem, WritablePlace, AllWritable, BackTheorem}
@@ -26,14 +28,6 @@ abbrev Free : ℕ → Type 0
 Free k = (j : ℕ) → may_follow k j ≡ (eqb j lift_kind || eqb j end_kind || eqb k new_kind && eqb j held_kind)
 
 -- ---- a word that passes
-
-or_false : (a b : Bool) → (a || b) ≡ false → (a ≡ false) × (b ≡ false)
-or_false true b h = absurd (true≢false h)
-or_false false b h = (refl, h)
-
-either : {C : Type 0} (a b : Bool) → (a || b) ≡ true → (a ≡ true → C) → (b ≡ true → C) → C
-either true b h f g = f refl
-either false b h f g = g h
 
 -- a number for the first of some tests that holds: 0 if none does
 not_held : (n : ℕ) (a : Bool) {r : ℕ} → cond a (suc n) r ≡ 0 → (a ≡ false) × (r ≡ 0)
@@ -60,14 +54,14 @@ passes s w h =
     let f6 = not_held 5 (mismarked s w) f5.1 in
     record {
       order = not-false _ f2.0;
-      number = λ e. leb-false _ _ (or_false (eqb (payload w) 0) _ (rw e at f3.0)).1;
+      number = λ e. leb-false _ _ (or_parts (eqb (payload w) 0) _ (rw e at f3.0)).1;
       place = λ e.
-          let g = or_false _ _ (rw e at f4.0) in
-          let b = or_false (ltb most_rounds (place_of w).round) _ g.0 in
+          let g = or_parts _ _ (rw e at f4.0) in
+          let b = or_parts (ltb most_rounds (place_of w).round) _ g.0 in
           record { round = ltb-false _ _ b.0; measure = b.1; nowhere = λ z. eqb-true _ _ (not-false _ (rw (eq-eqb _ _ z) at g.1)) };
       newcomer = λ e z. eqb-false _ _ (rw (e, eq-eqb _ _ z) at f16.0);
-      count = λ e. let g = or_false _ _ (rw e at f5.0) in (eqb-true _ _ (not-false _ g.0), ltb-false _ _ g.1);
-      mark = λ e. let g = or_false _ _ (rw e at f6.0) in (eqb-true _ _ (not-false _ g.0), omega (arith, eqb-false (place_of s.old).measure 0 g.1));
+      count = λ e. let g = or_parts _ _ (rw e at f5.0) in (eqb-true _ _ (not-false _ g.0), ltb-false _ _ g.1);
+      mark = λ e. let g = or_parts _ _ (rw e at f6.0) in (eqb-true _ _ (not-false _ g.0), omega (arith, eqb-false (place_of s.old).measure 0 g.1));
     }
 
 -- ---- words that pass
@@ -112,19 +106,19 @@ by_kind : (s : ScanState) (i w : ℕ) (ws : List ℕ) → Free s.kind → read_f
 unfolding words_then AllWellFormed
 by_kind s i w ws o h lift held =
     let f = first_passes s i w ws h in
-    either _ _ (sym (o (kind w)) ∙ f.0.order)
-    (λ le. either _ _ le
+    ⊎_elim (λ le. ⊎_elim
     (λ l. let e = eqb-true _ _ l in lift e (f.0.number e) (rw e at f.1))
     (λ l.
     let e = eqb-true (kind w) end_kind l in
     let c = f.0.count e in
-    record { held = false; mark = λ q. absurd (false≢true q); list = []; listed = tt; few = omega arith; back = ap₂ ◌∷◌ (omega arith) (ended _ _ ws e f.1) }))
+    record { held = false; mark = λ q. absurd (false≢true q); list = []; listed = tt; few = omega arith; back = ap₂ ◌∷◌ (omega arith) (ended _ _ ws e f.1) }) (or_cases _ _ le))
     (λ m.
     let k = (and-eq-true_iff _ _).0 m in
     let e = eqb-true (kind w) held_kind k.1 in
     let t = held (rw e at f.1) in
     let z = f.0.mark e in
     record { held = true; mark = λ _. (k.0, z.1); list = t.list; listed = t.listed; few = t.few; back = ap₂ ◌∷◌ (omega (arith, z.0)) (unmarked t refl) })
+    (or_cases _ _ (sym (o (kind w)) ∙ f.0.order))
 
 -- and the words of one lift more before them
 lift_read : (s : ScanState) (w v u : ℕ) (ws : List ℕ) → kind w ≡ lift_kind → s.number < payload w → kind v ≡ old_kind → PlaceWellFormed old_kind (place_of v) → kind u ≡ new_kind

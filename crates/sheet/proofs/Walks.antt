@@ -9,10 +9,9 @@ use lib.ListN.{length, get_or, drop, length-append, length-drop}
 use lib.Seq.{drop-drop, get_or-append-add}
 use Rattle.probability.specs.Sum.{indicator}
 use Rattle.probability.proofs.Sums.{indicator_le}
-use Rattle.sheet.specs.Sheet.{most_lifts, most_rounds, kind, payload, lift_kind, old_kind, new_kind, held_kind, end_kind, Lift, lift_of, lifts, word, place_word, lift_words, words_then}
+use Rattle.sheet.specs.Sheet.{kind, payload, lift_kind, old_kind, new_kind, held_kind, end_kind, Lift, lift_of, lifts, word, place_word, lift_words, words_then}
 use Rattle.sheet.specs.Reading.{Legible}
-use Rattle.sheet.specs.Lift.{MarkSound, entry_of}
-use Rattle.sheet.specs.declared.Entry.{Entry}
+use Rattle.sheet.specs.Lift.{MarkSound}
 use Rattle.sheet.specs.Law.{PlaceWellFormed, LiftWellFormed, AllWellFormed, LiftsLeft}
 use Rattle.sheet.proofs.Trips.{kind_word, payload_word, kind_place, placed_writable, read_theorem}
 
@@ -24,10 +23,6 @@ abbrev pub all_left : {ws : List ℕ} → Legible ws → LiftsLeft ws
 all_left {ws} l =
     let r = read_theorem ws l.read in
     record { before = 0; listed = r.well_formed.listed; count = length (lifts ws); few = omega (arith, r.well_formed.few); back = r.back }
-
--- a legible sheet has no more lifts than a sheet may have
-pub few_lifts : {ws : List ℕ} → Legible ws → length (lifts ws) ≤ most_lifts
-few_lifts {ws} l = (read_theorem ws l.read).well_formed.few
 
 -- how many words the first lift has
 abbrev pub size : List ℕ → ℕ
@@ -171,14 +166,6 @@ pub record Turn (ws : List ℕ) (i : ℕ) : Type 0 where
   pub new : PlaceWellFormed new_kind (lift_of (drop i ws)).new
   pub here : lifts (drop i ws) ≡ lift_of (drop i ws) ∷ lifts (drop (behind ws i) ws)
   pub next : Between ws (behind ws i)
-
--- a lift's rounds are indices of a table by round
-module _ {ws : List ℕ} {i : ℕ} {e : Entry} (t : Turn ws i) (q : e ≡ entry_of (lift_of (drop i ws))) where
-  pub entry_from : e.from < most_rounds + 1
-  entry_from = omega (arith, t.old.round, ap (λ x. x.from) q)
-
-  pub entry_to : e.to < most_rounds + 1
-  entry_to = omega (arith, t.new.round, ap (λ x. x.to) q)
 
 -- a turn moves on, and not beyond the words
 pub moved : {ws : List ℕ} {i m : ℕ} → Turn ws i → m ≡ indicator (lift_of (drop i ws)).held → i + (3 + m) ≤ length ws

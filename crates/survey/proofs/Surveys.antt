@@ -1,9 +1,9 @@
 -- The tables of a sheet, gathered in one walk over its lifts.
 use Prim.Native.Nat.{ℕ}
-use mathlib.Core.Path.{◌≡◌, sym, ap, subst, ◌∙◌}
+use mathlib.Core.Path.{◌≡◌, sym, ap, ◌∙◌}
 use mathlib.Core.List.{List, [], ◌∷◌, ◌++◌}
 use lib.ListN.{get_or}
-use Rattle.std.proofs.Common.{append_assoc, append-nil}
+use Rattle.std.proofs.Common.{append_assoc}
 use Rattle.sheet.specs.Sheet.{Lift, lifts}
 use Rattle.sheet.specs.Reading.{Legible}
 use Rattle.sheet.specs.declared.Entry.{Entry}
@@ -34,6 +34,3 @@ module _ {ws : List ℕ} {t : Tallies} {left rest : List Lift} {e : Entry} (s : 
   -- and once it is added, the tables are those of the lifts before those behind it
   pub surveyed_turn : {t' : Tallies} → Tabled (s.before ++ f.lift ∷ []) t' → Surveyed ws t' rest
   surveyed_turn d = record { before = s.before ++ f.lift ∷ []; whole = append_assoc s.before (f.lift ∷ []) rest ∙ next; tabled = d }
-
-pub surveyed_end : {ws : List ℕ} {t : Tallies} {left : List Lift} → Surveyed ws t left → left ≡ [] → Tabled (lifts ws) t
-surveyed_end {ws} {t} s e = subst (λ ls. Tabled ls t) (sym (append-nil s.before) ∙ ap (λ ls. s.before ++ ls) (sym e) ∙ s.whole) s.tabled

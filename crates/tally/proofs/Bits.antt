@@ -31,10 +31,6 @@ bits_ones (suc n) p = ones_step (bits (suc n) p) ∙ rw (low, high, bits_ones n)
 
 -- ---- `|`
 
--- the lowest bit of a | b
-or_low : (a b : ℕ) → bit_or a b % 2 ≡ max (a % 2) (b % 2)
-or_low a b = omega (arith, or_step a b)
-
 -- of two bits the larger is set if either is
 max_or : (a b : Bool) → max (indicator a) (indicator b) ≡ indicator (a || b)
 max_or true true = refl

@@ -1,17 +1,13 @@
 use mathlib.Core.Path.{◌≡◌, sym, ap, ◌∙◌}
 use native.Mathlib.Omega.{arith}
-use Rattle.sheet.proofs.Trips.{read_theorem}
 use Rattle.carry.specs.Next.{in_table}
-use Rattle.carry.proofs.Writing.{remaining_fit, words_not, words_held, number_small, writing_none, writing_first, three_fit, four_fit, writing_three, writing_four, writing_past, end_fits, writing_end}
+use Rattle.carry.proofs.Writing.{remaining_fit, words_not, words_held, number_small, writing_first, three_fit, four_fit, writing_three, writing_four, writing_past, end_fits, writing_end}
 use Rattle.carry.proofs.write.Goals as goal
 use Rattle.carry.proofs.write.Goals.{Then-l-ne0}
 
 -- the lift has a new round
 some : (c : Then-l-ne0) → c.in-Some.ensures.steps.lift.new.round ≡ 0 → ⊥
 some c e = c.if-l-ne0.true (ap (λ x. x.to) c.in-Some.ensures.steps.read ∙ e)
-
-pub loop-l-init : goal.loop-l-init
-loop-l-init c = rw (c.into_iter-l-iterator.ensures.into_iter_gives, c.lifts-l-items.ensures) (writing_none (in_table c.args.chosen.now) (read_theorem _ c.args.sheet.legible.read).well_formed)
 
 pub next_words-requires-clause-number_bound : goal.next_words-requires-clause-number_bound
 next_words-requires-clause-number_bound c = number_small (in_table c.args.chosen.now) (writing_first (in_table c.args.chosen.now) c.loop-l.invariant c.in-Some.ensures.steps) c.in-Some.ensures.steps.read

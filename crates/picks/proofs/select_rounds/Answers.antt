@@ -58,9 +58,6 @@ pub returns-in_default-clause-behind : goal.returns-in_default-clause-behind
 returns-in_default-clause-behind g c = let l = c.loop-r.invariant in
     (stopped (on_none _ l.lent l.going c.loop-r.auto.r (omega (arith, c.loop-r-test.true)) (filled c.is_empty.ensures c.if-not-is_empty.true) c.held_of.result c.donors_of.ensures c.held_of.ensures (ap (λ x. x.now) l.list) _ c.choose_lift.ensures.value c.in_default.is) c.loop-r.auto.r c.choose_lift.new.words.at).1
 
-pub returns-in_default-clause-list : goal.returns-in_default-clause-list
-returns-in_default-clause-list g c = c.choose_lift.ensures.list ∙ c.loop-r.invariant.list
-
 pub loop-r-preserved : goal.loop-r-preserved
 loop-r-preserved g c =
     let l = c.loop-r.invariant in
@@ -85,6 +82,3 @@ returns-clause-picked g c = (going_end c.loop-r.invariant.going (omega (arith, c
 
 pub returns-clause-behind : goal.returns-clause-behind
 returns-clause-behind g c = (going_end c.loop-r.invariant.going (omega (arith, c.loop-r-test.false))).1
-
-pub returns-clause-list : goal.returns-clause-list
-returns-clause-list g c = c.loop-r.invariant.list

@@ -8,9 +8,6 @@ use Rattle.round.specs.Rows.{initial_of}
 use Rattle.procedure.specs.Preliminary.{proposed}
 use Rattle.procedure.proofs.find_preliminary.Goals as goal
 
-pub draw_between-requires : goal.draw_between-requires
-draw_between-requires c = rw (c.in-Some-Some.is-0, c.in-Some-Some.is-1) at c.requires
-
 pub returns-in_err-draw_between-in-Some-Some-clause-value : goal.returns-in_err-draw_between-in-Some-Some-clause-value
 unfolding preliminary_by single join
 returns-in_err-draw_between-in-Some-Some-clause-value c =

@@ -5,7 +5,7 @@ use mathlib.Core.Path.{◌≡◌, ap, ◌∙◌}
 use Rattle.std.specs.Prelude.{Some}
 use Rattle.round.specs.Rows.{row_lifts}
 use Rattle.weights.specs.Scaling.{scale_of, WeightsFit, Balanced}
-use Rattle.weights.proofs.Scales.{whole_room, whole_positive, multipliable}
+use Rattle.weights.proofs.Scales.{whole_room, whole_positive}
 use Rattle.procedure.proofs.Answers.{on_none, on_place, on_short, on_place_fits, contested}
 use Rattle.procedure.proofs.select.Goals as goal
 use Rattle.procedure.proofs.select.Goals.{After-scaling-scale, In-Some}
@@ -13,9 +13,6 @@ use Rattle.procedure.proofs.select.Goals.{After-scaling-scale, In-Some}
 -- the multipliers are those of the round
 scale : (c : After-scaling-scale) → let a = c.args in c.scaling-scale.result ≡ scale_of a.round.now.donors (row_lifts a.round.now.rows.now)
 scale c = c.scaling-scale.ensures (row_lifts c.args.round.now.rows.now) c.args.round.now.has_sums
-
-pub scaling-scale-requires : goal.scaling-scale-requires
-scaling-scale-requires c = multipliable c.args.round.now.donors c.args.round.now.sums c.args.round.now.has_sums c.args.round.now.callable.fitting c.args.round.now.callable.bounded
 
 pub find_preliminary-requires : goal.find_preliminary-requires
 find_preliminary-requires c = contested _ (scale (goal.at.find_preliminary-requires c).After-scaling-scale) c.args.round.now.callable

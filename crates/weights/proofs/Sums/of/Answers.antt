@@ -1,19 +1,10 @@
 -- `weights::Sums::of` meets its contract: by how many donors there are. Assumes nothing.
 use native.Mathlib.Omega.{arith}
-use Rattle.weights.proofs.Scales.{whole_room, came_room, summed}
+use Rattle.weights.proofs.Scales.{whole_room, summed}
 use Rattle.weights.proofs.Sums.of.Goals as goal
 
 pub invariant_of-whole : goal.invariant_of-whole
 invariant_of-whole c = record { fits = whole_room c.requires.1 }
-
-pub donated-requires : goal.donated-requires
-donated-requires c = let p = c.requires in came_room p.0 p.1 0 (rw c.in-One.is (omega arith))
-
-pub donated-requires-in-Two : goal.donated-requires-in-Two
-donated-requires-in-Two c = let p = c.requires in came_room p.0 p.1 0 (rw c.in-Two.is (omega arith))
-
-pub donated-requires-in-Two-2 : goal.donated-requires-in-Two-2
-donated-requires-in-Two-2 c = let p = c.requires in came_room p.0 p.1 1 (rw c.in-Two.is (omega arith))
 
 pub returns-in-None : goal.returns-in-None
 returns-in-None c = rw c.in-None.is (summed _ _ c.growth_sum-new.ensures (λ l. absurd (omega arith)) (λ l. absurd (omega arith)))
