@@ -4,6 +4,7 @@
 ghost use Rattle.std.specs.Prelude.{◌≡◌, ◌≤◌, length, All, IfSome};
 ghost use Rattle.reply.specs.Refusal.{reply_of};
 ghost use Rattle.sheet.specs.Sheet.{largest_sum, new_kind, place_of, place_word, lifts};
+ghost use Rattle.sheet.specs.Reading.{Legible};
 ghost use Rattle.counts.specs.Counts.{numbers_of, counts_reply, counts_output};
 ghost use Rattle.counts.specs.Law.{Takes};
 ghost use Rattle.intake.specs.Positions.{sheet_with};
@@ -33,14 +34,13 @@ fn renew(word: u32, measure: u32) -> u32
     Sheet::word(Sheet::NEW, Sheet::place(round, measure))
 }
 
-// A sheet's words written with new measures, for each lift in its place, if there is one.
-fn put(sheet: LegibleSheet<'_>, measures: &[Option<u32>], words: &mut [u32])
-    requires measures_len { length measures.now ≡ length (lifts sheet.words.now) }
+// New measures put into a sheet's words, for each lift in its place, if there is one.
+fn put(measures: &[Option<u32>], words: &mut [u32])
+    requires legible { Legible words.old }
+    requires measures_len { length measures.now ≡ length (lifts words.old) }
     requires small { All (λ o. IfSome o (λ m. m ≤ largest_sum)) measures.now }
-    requires words_len { length words.old ≡ length sheet.words.now }
-    ensures { words.new ≡ sheet_with sheet.entry.words.now measures.now }
+    ensures { words.new ≡ sheet_with words.old measures.now }
 {
-    words.copy_from_slice(sheet.words);
     let mut i = 0;
     for measure in measures {
         let held = scan::marks(words, i);
@@ -67,7 +67,8 @@ pub fn take(sheet: &mut [u32], text: &[u8]) -> Result<Done, Refusal>
     let words = &mut words[..lent.words.len()];
     number_lifts(lent, numbers);
     let many = lines::gather(text, numbers, measures)?;
-    put(lent, measures, words);
+    words.copy_from_slice(sheet);
+    put(measures, words);
     survey::check(words)?;
     sheet.copy_from_slice(words);
     Ok(Done { many, words: 0 })

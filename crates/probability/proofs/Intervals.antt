@@ -2,10 +2,10 @@
 use Prim.Native.Nat.{ℕ, zero, suc, ◌+◌, ◌*◌, ◌-◌, ◌≤◌, ◌<◌}
 use mathlib.Core.Path.{◌≡◌, refl, ap, ap₂, ◌∙◌}
 use mathlib.Core.Bool.{Bool, true, false, cond}
-use mathlib.Core.List.{List, [], ◌∷◌}
-use native.Mathlib.Nat.{add-sub_cancel_left}
+use mathlib.Core.List.{List, [], ◌∷◌, map}
+use native.Mathlib.Nat.{add-sub_cancel_left, zero-add, suc-add, sub-zero}
 use native.Mathlib.Omega.{arith}
-use lib.ListN.{length, get_or}
+use lib.ListN.{length, get_or, take, drop}
 use lib.Dec.{ltb, eqb}
 use borrow.Author.Tests.{lt-ltb, le-ltb, ltb-true, ltb-false}
 use Rattle.probability.specs.Sum.{over, Σ, total, indicator}
@@ -19,6 +19,29 @@ pick_here w ws q h = rw (lt-ltb q w h)
 pub pick_beyond : (w : ℕ) (ws : List ℕ) (q : ℕ) → w ≤ q → pick (w ∷ ws) q ≡ suc (pick ws (q - w))
 unfolding pick
 pick_beyond w ws q h = rw (le-ltb q w h)
+
+-- where the weights of the first k reach beyond q, only they count
+pub pick_within : {A : Type 0} (f : A → ℕ) (k : ℕ) (xs : List A) (q : ℕ) → q < total (map f (take k xs)) → pick (map f xs) q ≡ pick (map f (take k xs)) q
+unfolding total pick
+pick_within f zero xs q h = absurd (omega arith)
+pick_within f (suc k) [] q h = refl
+pick_within f (suc k) (x ∷ xs) q h = go (ltb q (f x)) refl (pick_within f k xs (q - f x))
+  where
+    go : (b : Bool) → ltb q (f x) ≡ b → (q - f x < total (map f (take k xs)) → pick (map f xs) (q - f x) ≡ pick (map f (take k xs)) (q - f x))
+        → cond b 0 (suc (pick (map f xs) (q - f x))) ≡ cond b 0 (suc (pick (map f (take k xs)) (q - f x)))
+    go true e r = refl
+    go false e r = let l = ltb-false q (f x) e in ap suc (r (omega arith))
+
+-- where they do not, what they leave of q falls in the rest
+pub pick_past : {A : Type 0} (f : A → ℕ) (k : ℕ) (xs : List A) (q : ℕ) → k ≤ length xs → total (map f (take k xs)) ≤ q
+    → pick (map f xs) q ≡ k + pick (map f (drop k xs)) (q - total (map f (take k xs)))
+unfolding total
+pick_past f zero xs q n h = rw (zero-add, sub-zero)
+pick_past f (suc k) [] q n h = absurd (omega arith)
+pick_past f (suc k) (x ∷ xs) q n h =
+    let t = total (map f (take k xs)) in
+    let same : q - f x - t ≡ q - (f x + t) = omega arith in
+    rw (pick_beyond (f x) (map f xs) q (omega arith), pick_past f k xs (q - f x) (omega arith) (omega arith), same, suc-add)
 
 falls : (ws : List ℕ) (q : ℕ) → q < total ws → Falls ws q (pick ws q)
 unfolding total
@@ -47,6 +70,15 @@ unfolding over total
     Σ-cut w (total ws) (λ q. f (pick (w ∷ ws) q))
     ∙ ap₂ ◌+◌ (over_ext ◌+◌ 0 w (λ q l. ap f (pick_here w ws q l)) ∙ Σ-const w (f 0))
     (over_ext ◌+◌ 0 (total ws) {f = λ q. f (pick (w ∷ ws) (w + q))} {g = λ q. f (suc (pick ws q))} (λ q l. rw (pick_beyond w ws (w + q) (omega arith), add-sub_cancel_left)) ∙ Σ-pick ws (λ i. f (suc i)))
+
+pub pick_lt : (ws : List ℕ) (q : ℕ) → q < total ws → pick ws q < length ws
+unfolding total pick
+pick_lt [] q h = omega arith
+pick_lt (w ∷ ws) q h = go (ltb q w) refl (pick_lt ws (q - w))
+  where
+    go : (b : Bool) → ltb q w ≡ b → (q - w < total ws → pick ws (q - w) < length ws) → cond b 0 (suc (pick ws (q - w))) < suc (length ws)
+    go true e r = omega arith
+    go false e r = let l = ltb-false q w e in omega (arith, r (omega arith))
 
 -- the interval in which a position falls is not empty
 pub pick_some : (ws : List ℕ) (q : ℕ) → q < total ws → 0 < get_or ws (pick ws q) 0

@@ -2,13 +2,13 @@
 use Prim.Native.Nat.{ℕ, zero, suc, ◌+◌, ◌*◌, ◌-◌, ◌/◌, ◌≤◌, ◌<◌}
 use mathlib.Core.Path.{◌≡◌, refl, sym, ap, ap₂, ◌∙◌}
 use mathlib.Core.Bool.{Bool, true, false}
-use mathlib.Core.List.{List, ◌∷◌, ◌++◌}
+use mathlib.Core.List.{List, [], ◌∷◌, ◌++◌, append_assoc}
 use native.Mathlib.Nat.{le_refl, zero-add, suc-add, sub-zero, mul-zero, mul-sub, mul-le-mul_left, mul-div-le, div-lt_iff_lt-mul, mul-div_cancel_left, add-div_left}
 use native.Mathlib.Numerals.{add-one}
 use native.Mathlib.Omega.{arith}
 use lib.Dec.{leb}
-use lib.ListN.{length, take, drop, set, length-append, length-drop}
-use lib.Seq.{slice, take-take, take_at, drop-drop, drop_at, set_at, length-take-le, take_all}
+use lib.ListN.{length, get_or, take, drop, set, length-append, length-drop}
+use lib.Seq.{slice, take-take, take_at, drop-drop, drop_at, get_or-take, get_or-drop, get_or_at, set_at, length-take-le, take_all, sets, length-sets, sets-eq}
 use borrow.Author.Tests.{leb-true, leb-false}
 use Rattle.std.specs.Simd.{first_chunks}
 use Rattle.probability.specs.Pieces.{cut, pieces}
@@ -72,6 +72,22 @@ module _ {A : Type 0} (k : ℕ) (xs : List A) where
   pub piece_inside : (i : ℕ) → i < length xs / k → k * i + k ≤ length xs
   piece_inside i h = omega (arith, mul-le-mul_left k h, mul-div-le (length xs) k)
 
+  -- the piece at a place
+  pub piece_at : (i : ℕ) → i < length xs / k → get_or (pieces k xs) i [] ≡ take k (drop (k * i) xs)
+  piece_at i h = rw (cut_at k i (length xs / k) xs h, get_or_at (cut k i xs) _ _ [] i (cut_length k i xs))
+
+  -- the element at place j of the piece at place i
+  pub piece_element : (i j : ℕ) (d : A) → i < length xs / k → j < k → get_or (get_or (pieces k xs) i []) j d ≡ get_or xs (k * i + j) d
+  piece_element i j d h l = rw (piece_at i h, get_or-take k (drop (k * i) xs) j d l, get_or-drop (k * i) xs j d)
+
+  -- as long as all are
+  pub piece_length : (i : ℕ) → i < length xs / k → length (get_or (pieces k xs) i []) ≡ k
+  piece_length i h = rw (piece_at i h) (length-take-le k (drop (k * i) xs) (rw length-drop (omega (arith, piece_inside i h))))
+
+  -- as it is lent, from its start to its end
+  pub piece_lent : (i : ℕ) → i < length xs / k → take (k * i + k - k * i) (drop (k * i) xs) ≡ get_or (pieces k xs) i []
+  piece_lent i h = let e : k * i + k - k * i ≡ k = omega arith in rw (e, piece_at i h)
+
 -- one more piece in front
 pub pieces_more : {A : Type 0} (k : ℕ) (p xs : List A) → 0 < k → length p ≡ k → pieces k (p ++ xs) ≡ p ∷ pieces k xs
 unfolding cut
@@ -114,3 +130,14 @@ module _ {A : Type 0} (k i : ℕ) (xs : List A) (h : i < length xs / k) where
       let n = length xs / k in
       let before : cut k i ys ≡ cut k i xs = sym (cut_within k i (k * i) ys (le_refl _)) ∙ ap (cut k i) f ∙ cut_within k i (k * i) xs (le_refl _) in
       ap (λ l. cut k (l / k) ys) e ∙ rw (cut_at k i n ys h, cut_at k i n xs h, set_at (cut k i xs) _ _ p i (cut_length k i xs), before, g, q)
+
+  -- elements stored one by one
+  pub pieces_sets : (p : List A) → length p ≡ k → pieces k (sets xs (k * i) p) ≡ set (pieces k xs) i p
+  pieces_sets p e =
+      let front = take (k * i) xs in
+      let rest = drop (k * i + k) xs in
+      let long : length front ≡ k * i = length-take-le (k * i) xs (omega (arith, piece_inside k xs i h)) in
+      let whole : sets xs (k * i) p ≡ front ++ p ++ rest = sets-eq p xs (k * i) (rw e (piece_inside k xs i h)) ∙ rw e in
+      pieces_set (sets xs (k * i) p) p (length-sets xs (k * i) p) (rw (whole, append_assoc front p rest, take_at front (p ++ rest) (k * i) long))
+      (rw (whole, drop_at (front ++ p) rest (k * i + k) (omega (arith, length-append front p))))
+      (rw (whole, append_assoc front p rest, drop_at front (p ++ rest) (k * i) long, take_at p rest k e))

@@ -6,7 +6,7 @@ use mathlib.Core.List.Memᴰ
 use mathlib.Core.List.{List, [], ◌∷◌, map}
 use native.Mathlib.Nat.{add_assoc, add_comm, suc-add, zero-add, mul-one, mul-zero, zero-mul, suc-mul}
 use native.Mathlib.Omega.{arith}
-use lib.ListN.{length, get_or}
+use lib.ListN.{length, get_or, take, drop}
 use lib.Dec.{eqb, eqb-suc-zero, eqb-zero-suc, eqb-suc-suc}
 use borrow.Author.Tests.{eqb-true}
 use Rattle.probability.specs.Sum.{over, Σ, total, value_by, total_by, indicator, count}
@@ -114,6 +114,13 @@ total_add f g [] = refl
 total_add f g (x ∷ xs) = omega (arith, total_add f g xs)
 
 -- a list's sum as a sum over its indices
+-- a list cut at k
+pub total_cut : {A : Type 0} (f : A → ℕ) (k : ℕ) (xs : List A) → total (map f (take k xs)) + total (map f (drop k xs)) ≡ total (map f xs)
+unfolding total
+total_cut f zero xs = omega arith
+total_cut f (suc k) [] = refl
+total_cut f (suc k) (x ∷ xs) = omega (arith, total_cut f k xs)
+
 pub Σ-map : {A : Type 0} (f : A → ℕ) (d : A) (xs : List A) → Σ (length xs) (λ i. f (get_or xs i d)) ≡ total (map f xs)
 unfolding over total
 Σ-map f d [] = refl

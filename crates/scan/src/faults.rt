@@ -43,7 +43,7 @@ fn beyond(kind: u32, round: usize, measure: u64) -> bool
 }
 
 // Whether refusal 4 applies to a word.
-fn misplaced(word: u32) -> bool
+pub fn misplaced(word: u32) -> bool
     ensures { result ≡ misplaced_of word }
 {
     let kind = Sheet::kind(word);

@@ -1,10 +1,10 @@
 // The words of a sheet read one by one, up to the first faulty one.
-ghost use Rattle.std.specs.Prelude.{◌≡◌, List, ℕ, ◌+◌, true, false, ◌≤◌, ◌<◌, length, IfOk};
-ghost use Rattle.sheet.specs.Sheet.{largest_sum, longest, kind as kind_of, place_of};
+ghost use Rattle.std.specs.Prelude.{◌≡◌, List, ℕ, ◌+◌, true, false, ◌≤◌, ◌<◌, eqb, length, IfOk};
+ghost use Rattle.sheet.specs.Sheet.{largest_sum, longest, kind as kind_of, new_kind, place_of};
 ghost use Rattle.sheet.specs.Reading.{next_state as next_of, misplaced as misplaced_of, fault, reading, of_words, reading_of};
 ghost use Rattle.scan.specs.Scan.{state_of, Kept};
 
-use crate::faults::{State, follows};
+use crate::faults::{State, follows, misplaced};
 use reply::Refusal;
 use sheet::{LegibleSheet, Sheet};
 
@@ -25,6 +25,13 @@ fn is_counted_place(kind: u32, word: u32) -> bool
     none <= word && word < none + Sheet::ROUNDS * Sheet::MEASURES
 }
 
+// Whether a word is a sound new place, counted or not, of a lift with this old place in a round from 1 up.
+fn is_known_place(old: u32, new: u32) -> bool
+    ensures { result ≡ true → (kind_of new ≡ new_kind) × (misplaced_of new ≡ false) × (eqb (place_of old).round 0 ≡ false) }
+{
+    Sheet::kind(new) == Sheet::NEW && !misplaced(new) && Sheet::round(old) != 0
+}
+
 // Whether three words are the lift, the old place and the new place of a lift, and none of them meets a refusal.
 fn is_sound_lift(s: State, lift: u32, old: u32, new: u32) -> bool
     ensures { result ≡ true → (fault (state_of s) lift ≡ 0) × (fault (next_of (state_of s) lift) old ≡ 0) × (fault (next_of (next_of (state_of s) lift) old) new ≡ 0) }
@@ -41,7 +48,7 @@ fn is_sound_lift(s: State, lift: u32, old: u32, new: u32) -> bool
     if !is_counted_place(Sheet::OLD, old) {
         return false;
     }
-    is_counted_place(Sheet::NEW, new)
+    is_counted_place(Sheet::NEW, new) || is_known_place(old, new)
 }
 
 // The state and the words left behind the sound lifts that words begin with, three words a turn.

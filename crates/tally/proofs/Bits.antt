@@ -4,7 +4,8 @@ use mathlib.Core.Path.{◌≡◌, refl, ◌∙◌}
 use mathlib.Core.Bool.{Bool, true, false, ◌&&◌, ◌||◌}
 use native.Mathlib.Nat.{pow-suc}
 use native.Mathlib.Omega.{arith}
-use lib.Bits.{bit_or, or_step}
+use lib.Arith.{bin_ind}
+use lib.Bits.{bit_or, or_step, or_shr}
 use lib.Count.{ones, ones_step}
 use lib.Dec.{eqb, ltb}
 use borrow.Author.Tests.{eqb-true, ltb-true, eq-eqb, lt-ltb}
@@ -31,6 +32,10 @@ bits_ones (suc n) p = ones_step (bits (suc n) p) ∙ rw (low, high, bits_ones n)
 
 -- ---- `|`
 
+-- the lowest bit of a | b
+or_low : (a b : ℕ) → bit_or a b % 2 ≡ max (a % 2) (b % 2)
+or_low a b = omega (arith, or_step a b)
+
 -- of two bits the larger is set if either is
 max_or : (a b : Bool) → max (indicator a) (indicator b) ≡ indicator (a || b)
 max_or true true = refl
@@ -42,6 +47,12 @@ pub bits_or : (n : ℕ) (p q : ℕ → Bool) → bit_or (bits n p) (bits n q) �
 unfolding bits
 bits_or zero p q = refl
 bits_or (suc n) p q = rw or_step (simp (low, high, max_or, bits_or n) (omega arith))
+
+-- it is associative
+pub or_assoc : (a b c : ℕ) → bit_or (bit_or a b) c ≡ bit_or a (bit_or b c)
+or_assoc =
+    bin_ind (λ a. (b c : ℕ) → bit_or (bit_or a b) c ≡ bit_or a (bit_or b c)) (λ b c. refl)
+    (λ a ih b c. rw (or_step (bit_or a b) c, or_step a (bit_or b c), or_shr a b 1, or_shr b c 1, ih) (omega (arith, or_low a b, or_low b c)))
 
 -- it has the same bits where the tests agree
 pub bits_ext : (n : ℕ) {p q : ℕ → Bool} → ((t : ℕ) → t < n → p t ≡ q t) → bits n p ≡ bits n q

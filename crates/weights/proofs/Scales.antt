@@ -1,5 +1,5 @@
 -- The code's multipliers give the weights of the round, or let each lift grow by its whole new measure; and all of it has room.
-use Prim.Native.Nat.{ℕ, ◌+◌, ◌*◌, ◌≤◌}
+use Prim.Native.Nat.{ℕ, ◌+◌, ◌*◌, ◌^◌, ◌≤◌, ◌<◌}
 use mathlib.Core.Path.{◌≡◌, refl, ap, fun_ext, ◌∙◌}
 use mathlib.Core.Bool.{Bool, true, false, cond}
 use mathlib.Core.List.{List, [], ◌∷◌, map, map-map}
@@ -12,14 +12,14 @@ use Rattle.probability.proofs.Sums.{total_map, total_mul}
 use Rattle.round.specs.Round.{S, U, measure_from, D, old_weight, new_weight, weights, growth, G, whole_sums, WellPosed}
 use Rattle.round.specs.Choice.{draw_place, fresh, first_odds}
 use Rattle.round.specs.Rows.{Bounded}
-use Rattle.weights.specs.Scaling.{HasSums, scaled, scale_of, wholly, WeightsFit, Balanced}
+use Rattle.weights.specs.Scaling.{HasSums, ProductsFit, scaled, scale_of, wholly, WeightsFit, Balanced}
 use Rattle.round.specs.declared.Donors.{Donors}
 use Rattle.round.specs.declared.Donors.TheVariants.{None, One, Two}
 use Rattle.round.specs.declared.Lift.{Lift}
 use Rattle.round.specs.declared.Weight.{Weight}
 use Rattle.weights.specs.declared.Scale.{Scale}
 use Rattle.weights.specs.declared.Sums.{Sums}
-use Rattle.round.proofs.WeightSums.{old_sum, new_sum, weight_bound}
+use Rattle.round.proofs.WeightSums.{old_sum, new_sum, came, weight_bound}
 
 -- ---- the multipliers of a round
 
@@ -97,6 +97,18 @@ module _ {ls : List Lift} (t : Sums) where
 pub scale_none : {n x y o : ℕ} (ls : List Lift) → n ≡ 0 → x ≡ 0 → y ≡ 0 → o ≡ 0 → record { new = n; first = x; second = y; odds = o } ≡ scale_of None ls
 unfolding D old_weight first_odds
 scale_none ls = scales
+
+-- the products of the multipliers have room
+pub multipliable : (ds : Donors) {ls : List Lift} (t : Sums) → HasSums ds ls t → WellPosed ds ls → Bounded ds ls → ProductsFit ds t
+multipliable None t e f b = tt
+multipliable (One T) t e f b = tt
+multipliable (Two T₁ T₂) {ls} t e f b =
+    let u = came 1 (T₁ ∷ T₂ ∷ []) ls f.donate b.old in
+    (b.old, (omega (arith, e.new, b.new), omega (arith, e.first (omega arith), u 0 (omega arith)), omega (arith, e.second (omega arith), u 1 (omega arith))))
+
+-- what came from a donor has room
+pub came_room : {ds : Donors} {ls : List Lift} → WellPosed ds ls → Bounded ds ls → (i : ℕ) → i < length (whole_sums ds) → U (1 + i) ls ≤ 2 ^ 61
+came_room {ds} {ls} f b i l = omega (arith, came 1 (whole_sums ds) ls f.donate b.old i l)
 
 -- the sums of a round, from S as the sum of the whole growths
 pub summed : (ds : Donors) (ls : List Lift) {n u v : ℕ} → n ≡ G (map (scaled wholly) ls) → (1 ≤ length (whole_sums ds) → u ≡ U 1 ls) → (2 ≤ length (whole_sums ds) → v ≡ U 2 ls)

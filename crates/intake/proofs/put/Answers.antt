@@ -4,7 +4,7 @@ use Rattle.intake.proofs.put.Goals as goal
 use Rattle.intake.proofs.put.Goals.{in-Some, in_default}
 
 pub loop-measure-init : goal.loop-measure-init
-loop-measure-init c = rw c.copy_from_slice.ensures.after (putting_none c.args.sheet.legible c.requires.measures_len)
+loop-measure-init c = putting_none c.requires.legible c.requires.measures_len
 
 pub marks-held-requires : goal.marks-held-requires
 marks-held-requires c = putting_room c.loop-measure.invariant c.loop-measure-test.true

@@ -3,4 +3,4 @@ use Rattle.intake.proofs.Renewing.{Putting}
 use Rattle.intake.proofs.put.Given as goal
 
 abbrev pub invariant-loop-measure : goal.invariant-loop-measure
-invariant-loop-measure l = Putting l.sheet.words.now l.measures l.words l.i l.measure-index
+invariant-loop-measure l = Putting l.fn.words l.measures l.words l.i l.measure-index

@@ -50,13 +50,14 @@ put-requires-clause-small c = taken_small c.in_ok-lent.lent.legible c.number_lif
 pub returns-in_err-check : goal.returns-in_err-check
 returns-in_err-check c =
     let p = err_from_is_err_and c.from_residual-in_err-check.result c.from_residual-in_err-check.ensures.1 in
-    let v = rw c.put.ensures at c.in_err-check.ensures in
-    let q = rw (ap (λ s. s.now) c.in_ok-lent.ensures.same) at (at_refused c.in_ok-lent.lent.legible c.number_lifts.ensures c.args.text.now c.in_ok-many.ensures _ v) in
+    let same = ap (λ s. s.now) c.in_ok-lent.ensures.same in
+    let v = rw (c.put.ensures, c.copy_from_slice.ensures.after, ← same) at c.in_err-check.ensures in
+    let q = rw same at (at_refused c.in_ok-lent.lent.legible c.number_lifts.ensures c.args.text.now c.in_ok-many.ensures _ v) in
     record { replied = rw (p.1, p.2) q.0; written = q.1; taken = takes _ _ }
 
 pub returns : goal.returns
 returns c =
     let same = ap (λ s. s.now) c.in_ok-lent.ensures.same in
-    let v = rw c.put.ensures at c.in_ok-check.ensures in
+    let v = rw (c.put.ensures, c.copy_from_slice.ensures.after, ← same) at c.in_ok-check.ensures in
     let q = rw same at (at_fits c.in_ok-lent.lent.legible c.number_lifts.ensures c.args.text.now c.in_ok-many.ensures v) in
-    record { replied = q.0; written = rw (c.copy_from_slice.ensures.after, c.put.ensures, same) q.1; taken = takes _ _ }
+    record { replied = q.0; written = rw (c.copy_from_slice-2.ensures.after, c.put.ensures, c.copy_from_slice.ensures.after) q.1; taken = takes _ _ }
