@@ -15,12 +15,16 @@ const SHEET_BYTES: usize = 4 * Sheet::LONGEST;
 const WORDS_BYTES: usize = report::WORDS_BYTES;
 
 fn main(rt: HostRuntime) {
-    let sheet = Contents::<SHEET_BYTES>::read(&rt, "sheet.bin", usize::MAX);
-    let words = Contents::<WORDS_BYTES>::read(&rt, "words.bin", WORDS_BYTES);
+    let mut sheet = Contents::<SHEET_BYTES>::new();
+    sheet.read(&rt, "sheet.bin", usize::MAX);
+    let mut words = Contents::<WORDS_BYTES>::new();
+    words.read(&rt, "words.bin", WORDS_BYTES);
     print_report(&rt, &sheet, &words);
 }
 
-// Prints the text of what was read, each with room for all bytes that decide it.
+// Prints the text of what was read, each with room for all bytes that decide it. Never inlined, so that its large arrays are not there
+// while a file is read.
+#[inline(never)]
 fn print_report(
     rt: &(impl Print + Eprint),
     sheet: &Contents<SHEET_BYTES>,

@@ -23,11 +23,22 @@ pub struct Contents<const N: usize> {
 }
 
 impl<const N: usize> Contents<N> {
+    // Those of an empty file.
+    pub fn new() -> Contents<N>
+        ensures { result.size ≡ 0 }
+    {
+        Contents {
+            bytes: [0; N],
+            kept: 0,
+            size: 0,
+        }
+    }
+
     // Reads a file until it ends or `most` bytes are counted; one that cannot be read counts as empty.
-    pub fn read(rt: &impl Files, path: &str, most: usize) -> Contents<N> {
-        let mut bytes = [0u8; N];
-        let Extent { kept, size } = read_file(rt, path, &mut bytes, most).unwrap_or(Extent::EMPTY);
-        Contents { bytes, kept, size }
+    pub fn read(&mut self, rt: &impl Files, path: &str, most: usize) {
+        let extent = read_file(rt, path, &mut self.bytes, most).unwrap_or(Extent::EMPTY);
+        self.kept = extent.kept;
+        self.size = extent.size;
     }
 
     // The bytes that were kept.
