@@ -1,6 +1,7 @@
 // The reading of a file.
-ghost use Rattle.std.specs.Prelude.{◌^◌, ◌≤◌, min, ◌≡◌, length, take, IfOk};
+ghost use Rattle.std.specs.Prelude.{ℕ, ◌+◌, ◌^◌, ◌<◌, ◌≤◌, min, ◌≡◌, List, ◌++◌, length, take, IfOk};
 ghost use Rattle.std.specs.Io.{ReadsAtMost};
+ghost use Rattle.std.specs.Io.KnownBytes.{Consumes, ConsumesCount, IsAtEnd, ReadConsumes};
 
 use std::fs::File;
 use std::io;
@@ -71,17 +72,25 @@ fn read_file(rt: &impl Files, path: &str, bytes: &mut [u8], most: usize) -> io::
 }
 
 // Reads into `bytes`, as many as fit, and counts on until nothing is left or `most` are counted.
-fn read_all(file: &mut impl Read, bytes: &mut [u8], most: usize) -> io::Result<Extent>
-    ensures { IfOk result (λ e. e.kept ≡ min e.size (length bytes.new)) }
+fn read_all<R: Read>(file: &mut R, bytes: &mut [u8], most: usize) -> io::Result<Extent>
+    ensures kept { IfOk result (λ e. e.kept ≡ min e.size (length bytes.new)) }
+    ensures read { IfOk result (λ e. (more : List ℕ) × (e.size ≡ e.kept + length more)
+        × Consumes (R.remaining file.old) (R.remaining file.new) (take e.kept bytes.new ++ more)) }
+    ensures end { IfOk result (λ e. e.size < min most MOST_COUNTED → IsAtEnd (R.remaining file.new)) }
 {
     let kept = fill(file, bytes)?;
-    let size = count_on(file, kept, bytes.len(), most)?;
+    if kept < bytes.len() {
+        return Ok(Extent { kept, size: kept });
+    }
+    let size = count_on(file, kept, most)?;
     Ok(Extent { kept, size })
 }
 
 // Reads until the bytes are full or nothing is left.
-fn fill(file: &mut impl Read, bytes: &mut [u8]) -> io::Result<usize>
-    ensures { ReadsAtMost result bytes.new }
+fn fill<R: Read>(file: &mut R, bytes: &mut [u8]) -> io::Result<usize>
+    ensures bound { ReadsAtMost result bytes.new }
+    ensures read { IfOk result (λ n. Consumes (R.remaining file.old) (R.remaining file.new) (take n bytes.new)) }
+    ensures end { IfOk result (λ n. n < length bytes.new → IsAtEnd (R.remaining file.new)) }
 {
     let mut done = 0;
     while done < bytes.len() {
@@ -94,14 +103,12 @@ fn fill(file: &mut impl Read, bytes: &mut [u8]) -> io::Result<usize>
     Ok(done)
 }
 
-// Counts on from the bytes kept, where no room is left for more, until nothing is left or `most` are counted.
-fn count_on(file: &mut impl Read, kept: usize, room: usize, most: usize) -> io::Result<usize>
-    requires { kept ≤ room }
-    ensures { IfOk result (λ size. kept ≡ min size room) }
+// Counts on from the bytes that were kept, until nothing is left or `most` are counted.
+fn count_on<R: Read>(file: &mut R, kept: usize, most: usize) -> io::Result<usize>
+    ensures read { IfOk result (λ size. (more : List ℕ) × (size ≡ kept + length more)
+        × Consumes (R.remaining file.old) (R.remaining file.new) more) }
+    ensures end { IfOk result (λ size. size < min most MOST_COUNTED → IsAtEnd (R.remaining file.new)) }
 {
-    if kept < room {
-        return Ok(kept);
-    }
     let mut size = kept;
     while size < most.min(MOST_COUNTED) {
         let n = read_piece(file)?;
@@ -114,16 +121,19 @@ fn count_on(file: &mut impl Read, kept: usize, room: usize, most: usize) -> io::
 }
 
 // Reads a piece that nothing keeps.
-fn read_piece(file: &mut impl Read) -> io::Result<usize>
-    ensures { IfOk result (λ n. n ≤ 2 ^ 16) }
+fn read_piece<R: Read>(file: &mut R) -> io::Result<usize>
+    ensures bound { IfOk result (λ n. n ≤ 2 ^ 16) }
+    ensures read { ConsumesCount (R.remaining file.old) (R.remaining file.new) result }
+    ensures end { IfOk result (λ n. n ≡ 0 → IsAtEnd (R.remaining file.new)) }
 {
     let mut piece = [0u8; 65536];
     read_some(file, &mut piece)
 }
 
 // Reads once; a read that a signal interrupts is tried again.
-fn read_some(file: &mut impl Read, bytes: &mut [u8]) -> io::Result<usize>
-    ensures { ReadsAtMost result bytes.new }
+fn read_some<R: Read>(file: &mut R, bytes: &mut [u8]) -> io::Result<usize>
+    ensures bound { ReadsAtMost result bytes.new }
+    ensures read { ReadConsumes (R.remaining file.old) (R.remaining file.new) result bytes.new }
 {
     for _ in 0..MOST_TRIES {
         match file.read(bytes) {
