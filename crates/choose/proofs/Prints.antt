@@ -7,7 +7,7 @@ use Rattle.sheet.specs.Sheet.{longest}
 use Rattle.report.specs.Report.{most_words, report}
 use Rattle.report.proofs.Reports.{report_first}
 use Rattle.choose.specs.Printing.{FilesRead, Printed}
-use Rattle.choose.specs.declared.Contents.{Contents}
+use Rattle.choose.specs.declared.reading.Contents.{Contents}
 
 module _ {n m : ℕ} (sheet : Contents n) (words : Contents m) (s : length sheet.bytes ≡ 4 * longest) (w : length words.bytes ≡ 8 * most_words) where
   whole : (sheet_bin words_bin : List ℕ) → FilesRead sheet_bin words_bin sheet words

@@ -1,7 +1,7 @@
 -- What is printed of what was read.
 use Rattle.std.specs.Prelude.{ℕ, ◌≡◌, List, length, take}
 use Rattle.report.specs.Report.{report}
-use Rattle.choose.specs.declared.Contents.{Contents}
+use Rattle.choose.specs.declared.reading.Contents.{Contents}
 
 module _ {n m : ℕ} where
   -- the content of sheet.bin and words.bin was read into both buffers, as many bytes as fit, and all bytes of the first were counted

@@ -1,6 +1,6 @@
 -- The whole text by its cases: the length, a refusal, the choices, whose text has room; and which bytes decide it. Assumes nothing.
 use Prim.Native.Nat.{ℕ, ◌*◌, ◌/◌, ◌%◌, ◌≤◌, ◌<◌, min}
-use mathlib.Core.Path.{◌≡◌, refl, ap, ◌∙◌}
+use mathlib.Core.Path.{◌≡◌, refl, sym, ap, ◌∙◌}
 use mathlib.Core.Bool.{Bool, true, false, cond}
 use mathlib.Core.List.{List, ◌++◌}
 use native.Mathlib.Omega.{arith}
@@ -13,6 +13,7 @@ use Rattle.sheet.specs.Sheet.{most_rounds, longest, lifts}
 use Rattle.reply.specs.Reply.{numbered, replied, of_refusal}
 use Rattle.reply.specs.Refusal.{refusal_of}
 use Rattle.reply.specs.declared.Refusal.{Refusal}
+use Rattle.reply.specs.declared.Reply.{Reply}
 use Rattle.reply.proofs.Replies.{above_refusal}
 use Rattle.tally.specs.Rounds.{in_use}
 use Rattle.sheet.specs.Lift.{New}
@@ -36,10 +37,12 @@ module _ (sheet : List ℕ) (size : ℕ) (words : List ℕ) where
   unfolding report
   report_long h l = rw (eq-eqb (size % 4) 0 h, lt-ltb longest (size / 4) l)
 
-  pub report_text : {n : ℕ} → n ≡ min size (length sheet) → size % 4 ≡ 0 → size / 4 ≤ longest
+  pub report_text : {n : ℕ} → n ≡ min (length sheet) size → size % 4 ≡ 0 → size / 4 ≤ longest
       → report sheet size words ≡ text_of (sheet_words (take n sheet)) (random_words words)
   unfolding report
-  report_text e h l = rw (eq-eqb (size % 4) 0 h, le-ltb longest (size / 4) l, e, take_min size sheet)
+  report_text {n} e h l =
+      let m : n ≡ min size (length sheet) = omega arith in
+      rw (eq-eqb (size % 4) 0 h, le-ltb longest (size / 4) l, m, take_min size sheet)
 
   -- no byte behind the longest sheet and the first words matters
   pub report_first : report (take (4 * longest) sheet) size (take (8 * most_words) words) ≡ report sheet size words
@@ -58,10 +61,15 @@ module _ (sheet : List ℕ) (size : ℕ) (words : List ℕ) where
 
 -- ---- the answer
 
-pub text_refused : (sheet ws : List ℕ) (x : Refusal) → of_refusal (refusal_of x) ≡ reply fourth sheet ws 0 (2 * most_rounds)
-    → refused_line (refusal_of x) ≡ text_of sheet ws
+pub text_refused : (sheet ws : List ℕ) {r : Reply} → r ≡ reply fourth sheet ws 0 (2 * most_rounds) → (r.number ≡ 0 → ⊥)
+    → text_of sheet ws ≡ refused_line (numbered r.number r.second)
 unfolding text_of
-text_refused sheet ws x e = rw (← e, ne_eqb (refusal_of x).number 0 (omega (arith, above_refusal x)))
+text_refused sheet ws {r} e h = rw (← e, ne_eqb r.number 0 h)
+
+-- the same of a refusal
+pub text_refusal : (sheet ws : List ℕ) (x : Refusal) → of_refusal (refusal_of x) ≡ reply fourth sheet ws 0 (2 * most_rounds)
+    → refused_line (refusal_of x) ≡ text_of sheet ws
+text_refusal sheet ws x e = sym (text_refused sheet ws e (omega (arith, above_refusal x)))
 
 -- the text from the output words out, of n choices and k words read
 pub record Chosen (sheet ws : List ℕ) (n k : ℕ) (out : List ℕ) : Type 0 where

@@ -37,16 +37,16 @@ length_refused number place =
 
 -- whatever the number is
 pub field_room : (n b : ℕ) → n < 2 ^ 64 → length (field n b) ≤ 21
-field_room n b h = field_le 20 n b (omega arith) (omega arith) h
+field_room n b h = field_le 19 n b (omega arith)
 
 line_le : (c : Choice) → Sound c → length (choice_line c.round c.number c.outcome) ≤ 16
 line_le c p =
     omega (
       arith,
       length_line c.round c.number c.outcome,
-      field_le 3 c.round space (omega arith) (omega (arith, p.upto)) (omega (arith, p.upto)),
-      field_le 9 c.number space (omega arith) (omega (arith, p.number)) (omega (arith, p.number)),
-      field_le 1 c.outcome LF (omega arith) (omega (arith, p.most)) (omega (arith, p.most)),
+      field_le 2 c.round space (omega (arith, p.upto)),
+      field_le 8 c.number space (omega (arith, p.number)),
+      field_le 0 c.outcome LF (omega (arith, p.most)),
     )
 
 lines_le : (cs : List Choice) → All Sound cs → length (choice_lines cs) ≤ 16 * length cs
@@ -56,4 +56,4 @@ lines_le (c ∷ cs) e = rw length-append (omega (arith, line_le c (e c (Memᴰ.h
 
 pub chosen_le : (cs : List Choice) (k : ℕ) → All Sound cs → length cs ≤ most_rounds → k ≤ most_words → length (choice_lines cs ++ words_line k) ≤ text_room
 chosen_le cs k e n h =
-    rw length-append (omega (arith, lines_le cs e, length_words k, field_le 4 k LF (omega arith) (omega arith) (omega arith)))
+    rw length-append (omega (arith, lines_le cs e, length_words k, field_le 3 k LF (omega arith)))

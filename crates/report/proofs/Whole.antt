@@ -10,7 +10,6 @@ use lib.Seq.{take-length}
 use borrow.Author.Tests.{eq-eqb, ne_eqb, lt-ltb, ltb-true}
 use Rattle.sheet.specs.Sheet.{most_rounds, longest}
 use Rattle.reply.specs.Reply.{numbered, of_refusal}
-use Rattle.reply.specs.declared.Refusal.TheVariants.{Length}
 use Rattle.tally.specs.Verdict.{verdict_by}
 use Rattle.selection.specs.Choice.{fourth, reply}
 use Rattle.report.specs.Report.{sheet_words, random_words, refused_line, text_of, report, WholeTheorem}
@@ -30,5 +29,5 @@ whole sheet words h = rw (eq-eqb (length sheet % 4) 0 h) (go (ltb longest (lengt
     go true q =
         let n = length_words 4 sheet in
         let r = long_refused (sheet_words sheet) (random_words words) (rw n (ltb-true _ _ q)) in
-        rw n at (text_refused (sheet_words sheet) (random_words words) (Length (length (sheet_words sheet))) (sym r))
+        sym (rw n at (text_refused (sheet_words sheet) (random_words words) (sym r) (omega arith)))
     go false q = rw (take-length sheet)

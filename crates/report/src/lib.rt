@@ -20,7 +20,7 @@ const MOST_WORDS: usize = 4096;
 pub const WORDS_BYTES: usize = 8 * MOST_WORDS;
 
 // Room for every text.
-const TEXT_ROOM: usize = 2048;
+pub const TEXT_ROOM: usize = 2048;
 
 // The text of a sheet's bytes, with the words of the other file.
 fn chosen_text(sheet: &[u8], words: &[u8]) -> Text

@@ -5,7 +5,7 @@ use native.Mathlib.Omega.{arith}
 use borrow.Author.Rules.{rules}
 use Rattle.report.specs.Report.{sheet_words, random_words}
 use Rattle.report.proofs.Decoding.{sheet_decoded, random_decoded, random_le}
-use Rattle.report.proofs.Reports.{Chosen, text_chosen, text_refused}
+use Rattle.report.proofs.Reports.{Chosen, text_chosen, text_refusal}
 use Rattle.report.proofs.chosen_text.Goals as goal
 use Rattle.report.proofs.chosen_text.Goals.{In-Ok}
 
@@ -36,4 +36,4 @@ pub returns-in-Err : goal.returns-in-Err
 returns-in-Err c =
     let s = c.decode-sheet.ensures ∙ sheet_decoded c.args.sheet.now c.requires in
     let w = c.decode-words.ensures ∙ random_decoded c.args.words.now in
-    c.refused.ensures ∙ text_refused _ _ c.in-Err.refusal (rw (s, w) at c.in-Err.ensures.replied)
+    c.refused.ensures ∙ text_refusal _ _ c.in-Err.refusal (rw (s, w) at c.in-Err.ensures.replied)
