@@ -6,17 +6,19 @@ ghost use Rattle.sheet.specs.Sheet.{most_rounds, Lift, lifts as lifts_of_sheet, 
 ghost use Rattle.sheet.specs.Lift.{entry_of};
 ghost use Rattle.sheet.specs.Law.{WritablePlace};
 ghost use Rattle.reply.specs.Reply.{onto};
+ghost use Rattle.tally.specs.Tables.{Tabled};
 ghost use Rattle.carry.specs.Next.{remaining as remaining_of, carried, carried_on, has_number, in_table};
 
 use selection::Picks;
 use sheet::{Entry, LegibleSheet, Sheet};
-use tally::FittingSheet;
+use tally::Tallies;
 
 // How many of a sheet's lifts have a new round, from its tables.
-pub fn remaining(fitting: &FittingSheet<'_>) -> usize
-    ensures { result ≡ length (remaining_of (lifts_of_sheet fitting.now.sheet.words.now)) }
+pub fn remaining(sheet: LegibleSheet<'_>, tallies: &Tallies) -> usize
+    requires tabled { Tabled (lifts_of_sheet sheet.words.now) tallies.now }
+    ensures { result ≡ length (remaining_of (lifts_of_sheet sheet.entry.words.now)) }
 {
-    scan::size(fitting.sheet) - fitting.tallies.new[0].lifts as usize
+    scan::size(sheet) - tallies.new[0].lifts as usize
 }
 
 // The word of a place.

@@ -7,11 +7,12 @@ use native.Mathlib.Omega.{arith}
 use lib.ListN.{length, length-map}
 use Rattle.std.specs.Prelude.{Option, All, IfSome}
 use Rattle.sheet.specs.Sheet.{largest_sum, Lift, lifts, sheet_of}
-use Rattle.reply.specs.Reply.{numbered, replied, of_refusal}
+use Rattle.reply.specs.Reply.{numbered, replied, of_refusal, unless_refused}
+use Rattle.reply.specs.declared.Reply.{Reply}
 use Rattle.reply.proofs.Replies.{left}
 use Rattle.probability.specs.Among.{among}
 use Rattle.sheet.specs.Reading.{Reading, faulty, of_words, Legible}
-use Rattle.tally.specs.Verdict.{refused, fits, crowded, unless_faulty, verdict}
+use Rattle.tally.specs.Verdict.{Verdict, refused, fits, crowded, unless_faulty, verdict, of_verdict}
 use Rattle.reply.specs.Refusal.{refusal_of}
 use Rattle.sheet.specs.Law.{AllWellFormed}
 use Rattle.sheet.proofs.Trips.{read_theorem}
@@ -61,11 +62,13 @@ module _ {ws ns : List ℕ} (l : Legible ws) (e : ns ≡ numbers_of (lifts ws)) 
   pub numbers_long : length ns ≡ length (lifts ws)
   numbers_long = ap length e ∙ length-map (lifts ws) (λ l. l.number)
 
-  pub at_line_lem : (text : List ℕ) (x : Refusal) → lines_from ns [] 1 (lines text) ≡ faulty (refusal_of x) → (of_refusal (refusal_of x) ≡ counts_reply ws text) × (ws ≡ counts_output ws text)
-  at_line_lem text x g =
+  -- a refusal of a line stands before what is said of the result, and nothing is written
+  pub at_line_lem : (text new : List ℕ) (rest : Verdict) (reply : ℕ → Reply) (x : Refusal) → lines_from ns [] 1 (lines text) ≡ faulty (refusal_of x)
+      → let y = of_verdict (unless_faulty (of_words ws) (unless_faulty (of_lines (lifts ws) (lines text)) rest)) reply in
+      (of_refusal (refusal_of x) ≡ y) × (ws ≡ unless_refused y ws new)
+  at_line_lem text new rest reply x g =
       let t = rw e at g in
-      let w = rw t at (behind_words ws text l) in
-      left ws (renewed ws text) (λ z. omega (arith, subst AboveWord t (above_lines (numbers_of (lifts ws)) [] 1 (lines text)), z)) (rw (← w))
+      left ws new (λ z. omega (arith, subst AboveWord t (above_lines (numbers_of (lifts ws)) [] 1 (lines text)), z)) (rw (← words_legible l, t))
 
   module _ (text : List ℕ) {n : ℕ} {ms : List (Option ℕ)} (t : AllTaken ns (lines text) n ms) where
     is_measures : ms ≡ measures_for (numbers_of (lifts ws)) (lines text)
@@ -91,6 +94,7 @@ module _ {ws ns : List ℕ} (l : Legible ws) (e : ns ≡ numbers_of (lifts ws)) 
 
 -- ---- the sheet lent
 
-pub at_word : (ws text : List ℕ) (x : Refusal) → faulty (refusal_of x) ≡ of_words ws → (of_refusal (refusal_of x) ≡ counts_reply ws text) × (ws ≡ counts_output ws text)
-unfolding counts_verdict
-at_word ws text x v = left ws (renewed ws text) (λ z. omega (arith, subst AboveWord (sym v) (above_of_words ws), z)) (rw (← v))
+-- a refusal of its words stands before what is said of the lines and of the result
+pub at_word : (ws new : List ℕ) (rest : Verdict) (reply : ℕ → Reply) (x : Refusal) → faulty (refusal_of x) ≡ of_words ws
+    → let y = of_verdict (unless_faulty (of_words ws) rest) reply in (of_refusal (refusal_of x) ≡ y) × (ws ≡ unless_refused y ws new)
+at_word ws new rest reply x v = left ws new (λ z. omega (arith, subst AboveWord (sym v) (above_of_words ws), z)) (rw (← v))

@@ -100,7 +100,7 @@ fn choose_next_fitting(
 {
     let rounds = fitting.counts.rounds;
     lacking(rounds, words.len(), start, out.len())?;
-    let lifts = carry::remaining(fitting);
+    let lifts = carry::remaining(fitting.sheet, &fitting.tallies);
     let space = 3 * lifts + rounds + 1;
     if next.len() < space {
         return Err(Refusal::Next(space));

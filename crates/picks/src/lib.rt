@@ -32,6 +32,7 @@ pub trait Way {
 }
 
 // The fourth procedure of document 002.
+#[derive(Clone, Copy)]
 pub struct Fourth;
 
 impl Way for Fourth {

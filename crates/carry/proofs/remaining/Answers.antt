@@ -5,7 +5,7 @@ use Rattle.carry.proofs.Writing.{remaining_all}
 use Rattle.carry.proofs.remaining.Goals as goal
 
 pub overflow_sub-result : goal.overflow_sub-result
-overflow_sub-result c = omega (arith, c.size.ensures, remaining_all (lifts c.args.fitting.now.sheet.words.now) c.args.fitting.now.tabled.new)
+overflow_sub-result c = omega (arith, c.size.ensures, remaining_all (lifts c.args.sheet.words.now) c.requires.tabled.new)
 
 pub returns : goal.returns
-returns c = omega (arith, c.size.ensures, remaining_all (lifts c.args.fitting.now.sheet.words.now) c.args.fitting.now.tabled.new)
+returns c = omega (arith, c.size.ensures, remaining_all (lifts c.args.sheet.words.now) c.requires.tabled.new)

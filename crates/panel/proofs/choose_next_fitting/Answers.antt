@@ -1,7 +1,7 @@
 -- `panel::choose_next_fitting` meets its contract: what is lacking is answered, and where nothing is, all outputs are the panel's. Assumes
 -- nothing.
 use native.Mathlib.Omega.{arith}
-use Prim.Native.Nat.{◌*◌, ◌+◌, ◌≤◌}
+use Prim.Native.Nat.{ℕ, ◌*◌, ◌+◌, ◌≤◌}
 use mathlib.Core.Path.{◌∙◌}
 use lib.ListN.{length}
 use Rattle.std.proofs.lemmas.Result.{err_from_is_err_and}
@@ -12,8 +12,9 @@ use Rattle.tally.proofs.Verdicts.{fit}
 use Rattle.reply.specs.declared.Refusal.TheVariants.{Next}
 use Rattle.carry.specs.Next.{words_needed}
 use Rattle.carry.proofs.Writing.{remaining_fit}
-use Rattle.selection.specs.Choice.{fourth}
+use Rattle.selection.specs.Choice.{fourth, panel}
 use Rattle.selection.proofs.Choices.{few_rounds}
+use Rattle.picks.specs.Choosing.{Behind}
 use Rattle.panel.proofs.Answers.{Gathered, gathered, ended, onward, replied_all, writable, written_all, suffices, counted}
 use Rattle.panel.proofs.Nexts.{both_refused, room, carried_all, carried_ended, cramped, through_next}
 use Rattle.panel.proofs.choose_next_fitting.Goals as goal
@@ -26,9 +27,9 @@ nothing c = let a = c.args in
     (rw (counted a.fitting.now.sheet.words.now a.fitting.now.judged) at c.in_ok-lacking.ensures)
 
 -- the choices are the panel's
-chosen : (c : In_ok-picks) → let a = c.args in Gathered fourth (lifts a.fitting.now.sheet.words.now) a.words.now a.start c.in_ok-picks.picks c.select_all.new.words.at
-chosen c = let r = c.new-reader.ensures in
-    gathered fourth _ _ _ (rw (r.list, r.position) at c.in_ok-picks.ensures.picked) (rw (r.list, r.position) at c.in_ok-picks.ensures.behind)
+chosen : (c : In_ok-picks) {at : ℕ} → let a = c.args in let r = c.new-reader.result in
+    Behind (panel fourth (lifts a.fitting.now.sheet.words.now) r.words.now r.at) at → Gathered fourth (lifts a.fitting.now.sheet.words.now) a.words.now a.start c.in_ok-picks.picks at
+chosen c b = let r = c.new-reader.ensures in gathered fourth _ _ _ (rw (r.list, r.position) at c.in_ok-picks.ensures.picked) (rw (r.list, r.position) at b)
 
 pub lacking-requires : goal.lacking-requires
 lacking-requires c = rw (counted c.args.fitting.now.sheet.words.now c.args.fitting.now.judged) (few_rounds (lifts c.args.fitting.now.sheet.words.now))
@@ -73,19 +74,19 @@ pub write-requires-clause-sheet_in_bounds : goal.write-requires-clause-sheet_in_
 write-requires-clause-sheet_in_bounds c =
     let h : words_needed (lifts c.args.fitting.now.sheet.words.now) (length (in_use New (lifts c.args.fitting.now.sheet.words.now))) ≤ length c.args.next.now
     = rw (← c.remaining-lifts.ensures, ← counted c.args.fitting.now.sheet.words.now c.args.fitting.now.judged) c.if-next-space.false in
-    room (fit c.args.fitting.now.fitting) _ _ (chosen (goal.at.write-requires-clause-sheet_in_bounds c).In_ok-picks) h
+    room (fit c.args.fitting.now.fitting) _ _ (chosen (goal.at.write-requires-clause-sheet_in_bounds c).In_ok-picks c.in_ok-picks.ensures.behind) h
 
 pub write_pairs-requires : goal.write_pairs-requires
 write_pairs-requires c =
-    writable _ _ _ _ (chosen (goal.at.write_pairs-requires c).In_ok-picks) (fit c.args.fitting.now.fitting) _ (nothing (goal.at.write_pairs-requires c).In_ok-lacking).1
+    writable _ _ _ _ (chosen (goal.at.write_pairs-requires c).In_ok-picks c.in_ok-picks.ensures.behind) (fit c.args.fitting.now.fitting) _ (nothing (goal.at.write_pairs-requires c).In_ok-lacking).1
 
 pub overflow_sub-result : goal.overflow_sub-result
-overflow_sub-result c = onward _ _ _ _ (chosen (goal.at.overflow_sub-result c).In_ok-picks)
+overflow_sub-result c = onward _ _ _ _ (chosen (goal.at.overflow_sub-result c).In_ok-picks c.in_ok-picks.ensures.behind)
 
 pub returns : goal.returns
 returns c =
     let a = c.args in
-    let d = chosen (goal.at.returns c).In_ok-picks in
+    let d = chosen (goal.at.returns c).In_ok-picks c.in_ok-picks.ensures.behind in
     let n = counted c.args.fitting.now.sheet.words.now c.args.fitting.now.judged in
     let f = fit c.args.fitting.now.fitting in
     let q = through_next (lifts a.fitting.now.sheet.words.now) a.words.now a.start a.out.now a.next.now c.remaining-lifts.result (nothing (goal.at.returns c).In_ok-lacking) c.remaining-lifts.ensures
