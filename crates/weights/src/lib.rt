@@ -10,7 +10,7 @@ use round::{Donors, Lift, Weight};
 
 mod weighing;
 
-pub use weighing::Weighed;
+pub use weighing::WeighedRound;
 
 // Sums over a round: of its new measures (S), and of the old measures that donor 1 and donor 2 sent (U).
 #[derive(Clone, Copy, Default)]
@@ -108,7 +108,7 @@ impl Sums {
         requires { WellPosed donors (row_lifts rows.now) × Bounded donors (row_lifts rows.now) }
         ensures { HasSums donors (row_lifts rows.now) result }
     {
-        let whole = Weighed {
+        let whole = WeighedRound {
             scale: Scale::WHOLLY,
             rows,
         };

@@ -10,13 +10,13 @@ use round::{Lift, Weight};
 
 // A round lent as rows, and multipliers by which its weights have room.
 #[derive(Clone, Copy)]
-pub struct Weighed<'a> {
+pub struct WeighedRound<'a> {
     pub scale: Scale,
     pub rows: &'a [u32],
     pub ghost fits: { WeightsFit scale (row_lifts rows.now) },
 }
 
-impl Weighed<'_> {
+impl WeighedRound<'_> {
     // The weights of the lift at a place.
     pub fn weight_at(&self, place: usize) -> Weight
         requires { place < length (row_lifts self.now.rows.now) }

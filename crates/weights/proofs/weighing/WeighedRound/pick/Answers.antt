@@ -1,6 +1,6 @@
 use mathlib.Core.List.{[]}
 use Rattle.weights.proofs.Rows.{row_growth, rows_growths, rows_room, seek_turn, seek_here, seek_end}
-use Rattle.weights.proofs.weighing.Weighed.pick.Goals as goal
+use Rattle.weights.proofs.weighing.WeighedRound.pick.Goals as goal
 
 pub weight-requires : goal.weight-requires
 weight-requires c = rw c.from.ensures (rows_room _ c.rows_of-lifts.ensures c.args.self.now.fits c.loop-i.i [] c.loop-i-test.true)

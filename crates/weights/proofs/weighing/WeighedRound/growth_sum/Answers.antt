@@ -1,4 +1,4 @@
--- `weights::Weighed::growth_sum` meets its contract: G is the sum over the rows. Assumes nothing.
+-- `weights::WeighedRound::growth_sum` meets its contract: G is the sum over the rows. Assumes nothing.
 use native.Mathlib.Omega.{arith}
 use Prim.Native.Nat.{◌<◌, ◌^◌}
 use Rattle.std.proofs.Common.{rules}
@@ -7,7 +7,7 @@ use Rattle.std.specs.List.{sum_by, All}
 use Rattle.round.specs.Rows.{row_lift}
 use Rattle.weights.specs.Scaling.{LiftWeightsFit}
 use Rattle.weights.proofs.Rows.{row_growth, rows_G, G_room, rows_room}
-use Rattle.weights.proofs.weighing.Weighed.growth_sum.Goals as goal
+use Rattle.weights.proofs.weighing.WeighedRound.growth_sum.Goals as goal
 
 pub sum-requires-clause-can : goal.sum-requires-clause-can
 sum-requires-clause-can c =
