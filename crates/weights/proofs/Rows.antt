@@ -2,14 +2,16 @@
 use Prim.Native.Nat.{ℕ, ◌+◌, ◌-◌, ◌/◌, ◌^◌, ◌≤◌, ◌<◌}
 use mathlib.Core.Path.{◌≡◌, refl, ap}
 use mathlib.Core.List.{List, [], ◌∷◌, map, map-map}
+use native.Mathlib.Nat.{le_refl}
 use native.Mathlib.Numerals.{add-one}
 use native.Mathlib.Omega.{arith}
-use lib.ListN.{length, get_or, drop, drop_of_length-le, length-map, get_or-map}
-use lib.Seq.{drop-cons}
+use lib.ListN.{length, get_or, take, drop, drop_of_length-le, length-map, get_or-map}
+use lib.Seq.{slice, drop-cons, take_all}
 use Rattle.std.specs.List.{sum_by, All}
 use Rattle.std.specs.Simd.{first_chunks}
 use Rattle.std.proofs.lemmas.List.Elements.{All-from_get_or}
 use Rattle.std.proofs.lemmas.List.Recursion.{is_sum_by}
+use Rattle.std.proofs.lemmas.List.Sums.{sum_by-take-drop}
 use Rattle.probability.specs.Sum.{total}
 use Rattle.probability.specs.Interval.{pick}
 use Rattle.probability.proofs.Sums.{total_map, map_le}
@@ -83,8 +85,26 @@ lift_room {s} {ls} {i} r h = record {
 pub rows_room : {s : Scale} (rs : List (List ℕ)) {ls : List Lift} → map row_lift rs ≡ ls → WeightsFit s ls → All (λ row. LiftWeightsFit s (row_lift row)) rs
 rows_room {s} rs e r = All-from_get_or (λ row. LiftWeightsFit s (row_lift row)) rs [] (λ i h. rw (← get_or-map row_lift rs i [], e) (lift_room r (rw (← e, length-map) h)))
 
-pub G_room : {s : Scale} {ls : List Lift} → WeightsFit s ls → G (map (scaled s) ls) ≤ 2 ^ 61
-G_room {s} {ls} r = omega (arith, G_le (map (scaled s) ls), total_map (scaled s) (λ w. w.new) ls, r.news)
+-- a part has room if the whole has
+slice_le : (f : Lift → ℕ) (a e : ℕ) (ls : List Lift) → total (map f (slice a e ls)) ≤ total (map f ls)
+slice_le f a e ls =
+    omega (arith, total_sum f (slice a e ls), total_sum f ls, sum_by-take-drop f ls e, sum_by-take-drop f (take e ls) a)
+
+pub block_room : {s : Scale} {ls us : List Lift} (a e : ℕ) → us ≡ slice a e ls → WeightsFit s ls → WeightsFit s us
+block_room {s} {ls} a e u r = rw u (record {
+  olds = omega (arith, slice_le (λ l. (scaled s l).old) a e ls, r.olds);
+  news = omega (arith, slice_le (λ l. (scaled s l).new) a e ls, r.news);
+})
+
+-- and so has the sum of its growths
+pub G_room : {s : Scale} {ls : List Lift} (a e : ℕ) → WeightsFit s ls → G (map (scaled s) (slice a e ls)) ≤ 2 ^ 61
+G_room {s} {ls} a e r =
+    let us = slice a e ls in
+    omega (arith, G_le (map (scaled s) us), total_map (scaled s) (λ w. w.new) us, (block_room a e refl r).news)
+
+-- that of all
+pub G_fits : {s : Scale} {ls : List Lift} → WeightsFit s ls → G (map (scaled s) ls) ≤ 2 ^ 61
+G_fits {s} {ls} r = rw (take_all (length ls) ls (le_refl _)) at (G_room 0 (length ls) r)
 
 -- where the lift at i may be dropped, another grows
 pub moves_G : {s : Scale} {ls : List Lift} {i : ℕ} {w : Weight} → Balanced s ls → i < length ls → w ≡ weight_at (map (scaled s) ls) i → w.new < w.old
