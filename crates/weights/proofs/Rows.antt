@@ -1,22 +1,19 @@
--- The rows of a round and the sums over them, and the search for the place in whose interval a position falls.
-use Prim.Native.Nat.{ℕ, ◌+◌, ◌-◌, ◌/◌, ◌^◌, ◌≤◌, ◌<◌}
+-- The rows of a round and the sums over them.
+use Prim.Native.Nat.{ℕ, ◌/◌, ◌^◌, ◌≤◌, ◌<◌}
 use mathlib.Core.Path.{◌≡◌, refl, ap}
-use mathlib.Core.List.{List, [], ◌∷◌, map, map-map}
+use mathlib.Core.List.{List, [], map, map-map}
 use native.Mathlib.Nat.{le_refl}
-use native.Mathlib.Numerals.{add-one}
 use native.Mathlib.Omega.{arith}
-use lib.ListN.{length, get_or, take, drop, drop_of_length-le, length-map, get_or-map}
-use lib.Seq.{slice, drop-cons, take_all}
+use lib.ListN.{length, take, length-map, get_or-map}
+use lib.Seq.{slice, take_all}
 use Rattle.std.specs.List.{sum_by, All}
 use Rattle.std.specs.Simd.{first_chunks}
 use Rattle.std.proofs.lemmas.List.Elements.{All-from_get_or}
 use Rattle.std.proofs.lemmas.List.Recursion.{is_sum_by}
 use Rattle.std.proofs.lemmas.List.Sums.{sum_by-take-drop}
 use Rattle.probability.specs.Sum.{total}
-use Rattle.probability.specs.Interval.{pick}
 use Rattle.probability.proofs.Sums.{total_map, map_le}
 use Rattle.probability.proofs.Pieces.{chunks_pieces}
-use Rattle.probability.proofs.Intervals.{pick_here, pick_beyond}
 use Rattle.round.specs.Round.{lift_at, U, measure_from, weight_at, growth, G}
 use Rattle.round.specs.Rows.{lift_of_measures, row_length, row_lift, row_lifts}
 use Rattle.weights.specs.Scaling.{scaled, WeightsFit, LiftWeightsFit, Balanced}
@@ -51,26 +48,6 @@ rows_growths s rs e = rw (← e, map-map growth (scaled s) (map row_lift rs), ma
 pub rows_G : (s : Scale) (rs : List (List ℕ)) {ls : List Lift} → map row_lift rs ≡ ls → G (map (scaled s) ls) ≡ sum_by (row_growth s) rs
 unfolding G
 rows_G s rs e = rw (rows_growths s rs e) (total_sum (row_growth s) rs)
-
--- ---- the search for the place in whose interval a position falls
-
--- what is left of the position falls, from row i on, in the interval of the place sought
-pub record PickSought (f : List ℕ → ℕ) (rs : List (List ℕ)) (place left i : ℕ) : Type 0 where
-  pub same : i + pick (map f (drop i rs)) left ≡ place
-
-module _ (f : List ℕ → ℕ) (rs : List (List ℕ)) {i w : ℕ} (h : i < length rs) (e : w ≡ f (get_or rs i [])) where
-  left_cons : map f (drop i rs) ≡ w ∷ map f (drop (i + 1) rs)
-  left_cons = rw (drop-cons rs i [] h, e, add-one)
-
-  pub seek_turn : {place left : ℕ} → w ≤ left → PickSought f rs place left i → PickSought f rs place (left - w) (i + 1)
-  seek_turn k d = record { same = omega (arith, rw (left_cons, pick_beyond _ _ _ k) at d.same) }
-
-  pub seek_here : {place left : ℕ} → left < w → PickSought f rs place left i → i ≡ place
-  seek_here k d = omega (arith, rw (left_cons, pick_here _ _ _ k) at d.same)
-
-pub seek_end : {f : List ℕ → ℕ} {rs : List (List ℕ)} {i place left : ℕ} → length rs ≤ i → i ≤ length rs → PickSought f rs place left i → length rs ≡ place
-unfolding pick
-seek_end {rs} {i} h k d = omega (arith, rw (drop_of_length-le rs {i = i} h) at d.same)
 
 -- ---- room
 

@@ -8,6 +8,7 @@ ghost use Rattle.weights.specs.Scaling.{HasSums, ProductsFit, multiplier_of, sca
 
 use round::{Donors, Lift, Weight};
 
+mod picking;
 mod weighing;
 
 pub use weighing::WeighedRound;
