@@ -61,4 +61,4 @@ pub record Balanced (s : Scale) (ls : List Lift) : Type 0 where
 
 -- how many lifts are lent at a time: a round is searched in blocks of this length, the last one shorter
 abbrev pub block_length : ℕ
-block_length = 16
+block_length = 8

@@ -9,7 +9,7 @@ use crate::{Scale, WeighedRound, count, rows_of};
 use round::Lift;
 
 // The most lifts that are lent at a time.
-const BLOCK: usize = 16;
+const BLOCK: usize = 8;
 
 // The place, among the lifts lent, of the one in whose interval the position q falls.
 fn pick(lifts: &[Lift], s: Scale, q: u64) -> usize
