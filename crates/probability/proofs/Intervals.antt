@@ -1,11 +1,11 @@
 -- Cumulative intervals: the positions below the total are cut at the first weight, and the rest is a shorter list.
 use Prim.Native.Nat.{ℕ, zero, suc, ◌+◌, ◌*◌, ◌-◌, ◌≤◌, ◌<◌}
-use mathlib.Core.Path.{◌≡◌, refl, ap, ap₂, ◌∙◌}
+use mathlib.Core.Path.{◌≡◌, refl, sym, ap, ap₂, ◌∙◌}
 use mathlib.Core.Bool.{Bool, true, false, cond}
-use mathlib.Core.List.{List, [], ◌∷◌, map}
+use mathlib.Core.List.{List, [], ◌∷◌, ◌++◌}
 use native.Mathlib.Nat.{add-sub_cancel_left, zero-add, suc-add, sub-zero}
 use native.Mathlib.Omega.{arith}
-use lib.ListN.{length, get_or, take, drop}
+use lib.ListN.{length, get_or}
 use lib.Dec.{ltb, eqb}
 use borrow.Author.Tests.{lt-ltb, le-ltb, ltb-true, ltb-false}
 use Rattle.probability.specs.Sum.{over, Σ, total, indicator}
@@ -20,28 +20,23 @@ pub pick_beyond : (w : ℕ) (ws : List ℕ) (q : ℕ) → w ≤ q → pick (w �
 unfolding pick
 pick_beyond w ws q h = rw (le-ltb q w h)
 
--- where the weights of the first k reach beyond q, only they count
-pub pick_within : {A : Type 0} (f : A → ℕ) (k : ℕ) (xs : List A) (q : ℕ) → q < total (map f (take k xs)) → pick (map f xs) q ≡ pick (map f (take k xs)) q
-unfolding total pick
-pick_within f zero xs q h = absurd (omega arith)
-pick_within f (suc k) [] q h = refl
-pick_within f (suc k) (x ∷ xs) q h = go (ltb q (f x)) refl (pick_within f k xs (q - f x))
-  where
-    go : (b : Bool) → ltb q (f x) ≡ b → (q - f x < total (map f (take k xs)) → pick (map f xs) (q - f x) ≡ pick (map f (take k xs)) (q - f x))
-        → cond b 0 (suc (pick (map f xs) (q - f x))) ≡ cond b 0 (suc (pick (map f (take k xs)) (q - f x)))
-    go true e r = refl
-    go false e r = let l = ltb-false q (f x) e in ap suc (r (omega arith))
-
--- where they do not, what they leave of q falls in the rest
-pub pick_past : {A : Type 0} (f : A → ℕ) (k : ℕ) (xs : List A) (q : ℕ) → k ≤ length xs → total (map f (take k xs)) ≤ q
-    → pick (map f xs) q ≡ k + pick (map f (drop k xs)) (q - total (map f (take k xs)))
+-- where the first weights reach beyond q, only they count
+pub pick_within : (ws us : List ℕ) (q : ℕ) → q < total ws → pick (ws ++ us) q ≡ pick ws q
 unfolding total
-pick_past f zero xs q n h = rw (zero-add, sub-zero)
-pick_past f (suc k) [] q n h = absurd (omega arith)
-pick_past f (suc k) (x ∷ xs) q n h =
-    let t = total (map f (take k xs)) in
-    let same : q - f x - t ≡ q - (f x + t) = omega arith in
-    rw (pick_beyond (f x) (map f xs) q (omega arith), pick_past f k xs (q - f x) (omega arith) (omega arith), same, suc-add)
+pick_within [] us q h = absurd (omega arith)
+pick_within (w ∷ ws) us q h = go (ltb q w) refl (pick_within ws us (q - w))
+  where
+    go : (b : Bool) → ltb q w ≡ b → (q - w < total ws → pick (ws ++ us) (q - w) ≡ pick ws (q - w)) → pick (w ∷ ws ++ us) q ≡ pick (w ∷ ws) q
+    go true e r = let l = ltb-true q w e in pick_here w (ws ++ us) q l ∙ sym (pick_here w ws q l)
+    go false e r = let l = ltb-false q w e in pick_beyond w (ws ++ us) q l ∙ ap suc (r (omega arith)) ∙ sym (pick_beyond w ws q l)
+
+-- where they do not, what they leave of q falls among the others
+pub pick_past : (ws us : List ℕ) (q : ℕ) → total ws ≤ q → pick (ws ++ us) q ≡ length ws + pick us (q - total ws)
+unfolding total
+pick_past [] us q h = rw (zero-add, sub-zero) refl
+pick_past (w ∷ ws) us q h =
+    let same : q - w - total ws ≡ q - (w + total ws) = omega arith in
+    rw (pick_beyond w (ws ++ us) q (omega arith), pick_past ws us (q - w) (omega arith), same, suc-add) refl
 
 falls : (ws : List ℕ) (q : ℕ) → q < total ws → Falls ws q (pick ws q)
 unfolding total

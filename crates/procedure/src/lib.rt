@@ -14,7 +14,7 @@ ghost use Rattle.procedure.specs.Preliminary.{proposed, Contested};
 
 use draw::Reader;
 use round::{Donors, Held, Outcome, Selection};
-use weights::{Scale, Sums, Weighed};
+use weights::{Scale, Sums, WeighedRound};
 
 // A round that a choice is made in: its rows, its donors, where their held lifts are, and its sums.
 #[derive(Clone, Copy)]
@@ -48,7 +48,7 @@ pub fn outcome(held: bool, dropped: bool) -> u32
 }
 
 // A draw below the sum of the growths picks the lift in whose interval it falls.
-fn draw_lift(round: &Weighed, dropped: bool, words: &mut Reader) -> Option<Selection>
+fn draw_lift(round: &WeighedRound, dropped: bool, words: &mut Reader) -> Option<Selection>
     requires { 1 ≤ G (weights_by round.now.scale round.now.rows.now) }
     ensures value { let ws = weights_by round.now.scale round.now.rows.now in reached result words.new.at ≡ answer (run largest words.old.words.now words.old.at (draw_place (G ws) (map growth ws) dropped)) }
     ensures list { words.new.words ≡ words.old.words }
@@ -59,7 +59,7 @@ fn draw_lift(round: &Weighed, dropped: bool, words: &mut Reader) -> Option<Selec
 }
 
 // Keyfitz's update of the preliminary lift at a place.
-fn update(round: &Weighed, place: usize, words: &mut Reader) -> Option<Selection>
+fn update(round: &WeighedRound, place: usize, words: &mut Reader) -> Option<Selection>
     requires balanced { Balanced round.now.scale (row_lifts round.now.rows.now) }
     requires place_in_bounds { place < length (row_lifts round.now.rows.now) }
     ensures value { reached result words.new.at ≡ answer (run largest words.old.words.now words.old.at (keyfitz (weights_by round.now.scale round.now.rows.now) place)) }
@@ -112,14 +112,14 @@ pub fn select(round: &Round, words: &mut Reader) -> Option<Selection>
     let scale = round.sums.scaling(round.donors);
     match find_preliminary(scale, round.held, words)? {
         None => {
-            let whole = Weighed {
+            let whole = WeighedRound {
                 scale: Scale::WHOLLY,
                 rows,
             };
             draw_lift(&whole, false, words)
         }
         Some(place) => {
-            let weighed = Weighed { scale, rows };
+            let weighed = WeighedRound { scale, rows };
             update(&weighed, place, words)
         }
     }

@@ -1,2 +1,3 @@
+pub mod Blocks
 pub mod Rows
 pub mod Scales

@@ -1,20 +1,19 @@
--- The rows of a round and the sums over them, and the search for the place in whose interval a position falls.
-use Prim.Native.Nat.{ℕ, ◌+◌, ◌-◌, ◌/◌, ◌^◌, ◌≤◌, ◌<◌}
+-- The rows of a round and the sums over them.
+use Prim.Native.Nat.{ℕ, ◌/◌, ◌^◌, ◌≤◌, ◌<◌}
 use mathlib.Core.Path.{◌≡◌, refl, ap}
-use mathlib.Core.List.{List, [], ◌∷◌, map, map-map}
-use native.Mathlib.Numerals.{add-one}
+use mathlib.Core.List.{List, [], map, map-map}
+use native.Mathlib.Nat.{le_refl}
 use native.Mathlib.Omega.{arith}
-use lib.ListN.{length, get_or, drop, drop_of_length-le, length-map, get_or-map}
-use lib.Seq.{drop-cons}
+use lib.ListN.{length, take, length-map, get_or-map}
+use lib.Seq.{slice, take_all}
 use Rattle.std.specs.List.{sum_by, All}
 use Rattle.std.specs.Simd.{first_chunks}
 use Rattle.std.proofs.lemmas.List.Elements.{All-from_get_or}
 use Rattle.std.proofs.lemmas.List.Recursion.{is_sum_by}
+use Rattle.std.proofs.lemmas.List.Sums.{sum_by-take-drop}
 use Rattle.probability.specs.Sum.{total}
-use Rattle.probability.specs.Interval.{pick}
 use Rattle.probability.proofs.Sums.{total_map, map_le}
 use Rattle.probability.proofs.Pieces.{chunks_pieces}
-use Rattle.probability.proofs.Intervals.{pick_here, pick_beyond}
 use Rattle.round.specs.Round.{lift_at, U, measure_from, weight_at, growth, G}
 use Rattle.round.specs.Rows.{lift_of_measures, row_length, row_lift, row_lifts}
 use Rattle.weights.specs.Scaling.{scaled, WeightsFit, LiftWeightsFit, Balanced}
@@ -50,26 +49,6 @@ pub rows_G : (s : Scale) (rs : List (List ℕ)) {ls : List Lift} → map row_lif
 unfolding G
 rows_G s rs e = rw (rows_growths s rs e) (total_sum (row_growth s) rs)
 
--- ---- the search for the place in whose interval a position falls
-
--- what is left of the position falls, from row i on, in the interval of the place sought
-pub record PickSought (f : List ℕ → ℕ) (rs : List (List ℕ)) (place left i : ℕ) : Type 0 where
-  pub same : i + pick (map f (drop i rs)) left ≡ place
-
-module _ (f : List ℕ → ℕ) (rs : List (List ℕ)) {i w : ℕ} (h : i < length rs) (e : w ≡ f (get_or rs i [])) where
-  left_cons : map f (drop i rs) ≡ w ∷ map f (drop (i + 1) rs)
-  left_cons = rw (drop-cons rs i [] h, e, add-one)
-
-  pub seek_turn : {place left : ℕ} → w ≤ left → PickSought f rs place left i → PickSought f rs place (left - w) (i + 1)
-  seek_turn k d = record { same = omega (arith, rw (left_cons, pick_beyond _ _ _ k) at d.same) }
-
-  pub seek_here : {place left : ℕ} → left < w → PickSought f rs place left i → i ≡ place
-  seek_here k d = omega (arith, rw (left_cons, pick_here _ _ _ k) at d.same)
-
-pub seek_end : {f : List ℕ → ℕ} {rs : List (List ℕ)} {i place left : ℕ} → length rs ≤ i → i ≤ length rs → PickSought f rs place left i → length rs ≡ place
-unfolding pick
-seek_end {rs} {i} h k d = omega (arith, rw (drop_of_length-le rs {i = i} h) at d.same)
-
 -- ---- room
 
 -- where the weights of all have room, so have those of each
@@ -83,8 +62,26 @@ lift_room {s} {ls} {i} r h = record {
 pub rows_room : {s : Scale} (rs : List (List ℕ)) {ls : List Lift} → map row_lift rs ≡ ls → WeightsFit s ls → All (λ row. LiftWeightsFit s (row_lift row)) rs
 rows_room {s} rs e r = All-from_get_or (λ row. LiftWeightsFit s (row_lift row)) rs [] (λ i h. rw (← get_or-map row_lift rs i [], e) (lift_room r (rw (← e, length-map) h)))
 
-pub G_room : {s : Scale} {ls : List Lift} → WeightsFit s ls → G (map (scaled s) ls) ≤ 2 ^ 61
-G_room {s} {ls} r = omega (arith, G_le (map (scaled s) ls), total_map (scaled s) (λ w. w.new) ls, r.news)
+-- a part has room if the whole has
+slice_le : (f : Lift → ℕ) (a e : ℕ) (ls : List Lift) → total (map f (slice a e ls)) ≤ total (map f ls)
+slice_le f a e ls =
+    omega (arith, total_sum f (slice a e ls), total_sum f ls, sum_by-take-drop f ls e, sum_by-take-drop f (take e ls) a)
+
+pub block_room : {s : Scale} {ls us : List Lift} (a e : ℕ) → us ≡ slice a e ls → WeightsFit s ls → WeightsFit s us
+block_room {s} {ls} a e u r = rw u (record {
+  olds = omega (arith, slice_le (λ l. (scaled s l).old) a e ls, r.olds);
+  news = omega (arith, slice_le (λ l. (scaled s l).new) a e ls, r.news);
+})
+
+-- and so has the sum of its growths
+pub G_room : {s : Scale} {ls : List Lift} (a e : ℕ) → WeightsFit s ls → G (map (scaled s) (slice a e ls)) ≤ 2 ^ 61
+G_room {s} {ls} a e r =
+    let us = slice a e ls in
+    omega (arith, G_le (map (scaled s) us), total_map (scaled s) (λ w. w.new) us, (block_room a e refl r).news)
+
+-- that of all
+pub G_fits : {s : Scale} {ls : List Lift} → WeightsFit s ls → G (map (scaled s) ls) ≤ 2 ^ 61
+G_fits {s} {ls} r = rw (take_all (length ls) ls (le_refl _)) at (G_room 0 (length ls) r)
 
 -- where the lift at i may be dropped, another grows
 pub moves_G : {s : Scale} {ls : List Lift} {i : ℕ} {w : Weight} → Balanced s ls → i < length ls → w ≡ weight_at (map (scaled s) ls) i → w.new < w.old

@@ -58,3 +58,7 @@ pub record LiftWeightsFit (s : Scale) (l : Lift) : Type 0 where
 -- "Both weights sum to D × S": the old weights and the new ones have the same sum
 pub record Balanced (s : Scale) (ls : List Lift) : Type 0 where
   pub sums : total (map (λ l. (scaled s l).old) ls) ≡ total (map (λ l. (scaled s l).new) ls)
+
+-- how many lifts are lent at a time: a round is searched in blocks of this length, the last one shorter
+abbrev pub block_length : ℕ
+block_length = 8

@@ -8,9 +8,10 @@ ghost use Rattle.weights.specs.Scaling.{HasSums, ProductsFit, multiplier_of, sca
 
 use round::{Donors, Lift, Weight};
 
+mod picking;
 mod weighing;
 
-pub use weighing::Weighed;
+pub use weighing::WeighedRound;
 
 // Sums over a round: of its new measures (S), and of the old measures that donor 1 and donor 2 sent (U).
 #[derive(Clone, Copy, Default)]
@@ -108,7 +109,7 @@ impl Sums {
         requires { WellPosed donors (row_lifts rows.now) × Bounded donors (row_lifts rows.now) }
         ensures { HasSums donors (row_lifts rows.now) result }
     {
-        let whole = Weighed {
+        let whole = WeighedRound {
             scale: Scale::WHOLLY,
             rows,
         };

@@ -1,7 +1,6 @@
-// A round with the multipliers of its weights: the sum of its growths, and the lift in whose cumulative interval a position falls.
-ghost use Rattle.std.specs.Prelude.{◌≡◌, map, ◌<◌, length};
-ghost use Rattle.probability.specs.Interval.{pick as pick_of};
-ghost use Rattle.round.specs.Round.{weight_at, growth, G};
+// A round with the multipliers of its weights: the weights of a lift, and the sum of the growths.
+ghost use Rattle.std.specs.Prelude.{◌≡◌, ◌<◌, length};
+ghost use Rattle.round.specs.Round.{weight_at, G};
 ghost use Rattle.round.specs.Rows.{row_lifts};
 ghost use Rattle.weights.specs.Scaling.{weights_by, WeightsFit};
 
@@ -10,13 +9,13 @@ use round::{Lift, Weight};
 
 // A round lent as rows, and multipliers by which its weights have room.
 #[derive(Clone, Copy)]
-pub struct Weighed<'a> {
+pub struct WeighedRound<'a> {
     pub scale: Scale,
     pub rows: &'a [u32],
     pub ghost fits: { WeightsFit scale (row_lifts rows.now) },
 }
 
-impl Weighed<'_> {
+impl WeighedRound<'_> {
     // The weights of the lift at a place.
     pub fn weight_at(&self, place: usize) -> Weight
         requires { place < length (row_lifts self.now.rows.now) }
@@ -33,21 +32,5 @@ impl Weighed<'_> {
             .iter()
             .map(|&row| self.scale.weight(Lift::from(row)).growth())
             .sum()
-    }
-
-    // The place of the lift in whose interval the position q falls.
-    pub fn pick(&self, q: u64) -> usize
-        ensures { result ≡ pick_of (map growth (weights_by self.now.scale self.now.rows.now)) q }
-    {
-        let lifts = rows_of(self.rows);
-        let mut left = q;
-        for (i, row) in lifts.iter().enumerate() {
-            let w = self.scale.weight(Lift::from(*row)).growth();
-            if left < w {
-                return i;
-            }
-            left -= w;
-        }
-        lifts.len()
     }
 }

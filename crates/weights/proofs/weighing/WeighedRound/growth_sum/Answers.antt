@@ -1,4 +1,4 @@
--- `weights::Weighed::growth_sum` meets its contract: G is the sum over the rows. Assumes nothing.
+-- `weights::WeighedRound::growth_sum` meets its contract: G is the sum over the rows. Assumes nothing.
 use native.Mathlib.Omega.{arith}
 use Prim.Native.Nat.{◌<◌, ◌^◌}
 use Rattle.std.proofs.Common.{rules}
@@ -6,8 +6,8 @@ use Rattle.std.proofs.iter.Serving.{serving}
 use Rattle.std.specs.List.{sum_by, All}
 use Rattle.round.specs.Rows.{row_lift}
 use Rattle.weights.specs.Scaling.{LiftWeightsFit}
-use Rattle.weights.proofs.Rows.{row_growth, rows_G, G_room, rows_room}
-use Rattle.weights.proofs.weighing.Weighed.growth_sum.Goals as goal
+use Rattle.weights.proofs.Rows.{row_growth, rows_G, G_fits, rows_room}
+use Rattle.weights.proofs.weighing.WeighedRound.growth_sum.Goals as goal
 
 pub sum-requires-clause-can : goal.sum-requires-clause-can
 sum-requires-clause-can c =
@@ -16,7 +16,7 @@ sum-requires-clause-can c =
 
 pub sum-requires-clause-fits : goal.sum-requires-clause-fits
 sum-requires-clause-fits c =
-    let fits : sum_by (row_growth c.args.self.now.scale) c.rows_of.result.now < 2 ^ 64 = omega (arith, rows_G c.args.self.now.scale _ c.rows_of.ensures, G_room c.args.self.now.fits) in
+    let fits : sum_by (row_growth c.args.self.now.scale) c.rows_of.result.now < 2 ^ 64 = omega (arith, rows_G c.args.self.now.scale _ c.rows_of.ensures, G_fits c.args.self.now.fits) in
     search rules
 
 pub returns : goal.returns
