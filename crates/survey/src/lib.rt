@@ -1,8 +1,9 @@
 // The tables of a sheet by round, gathered in one walk, and the verdict on a sheet from them ("Refused because of the sheet" of document 01).
 #![tactic(auto)]
 
-ghost use Rattle.std.specs.Prelude.{◌≡◌, List, [], ◌∷◌, ◌++◌, ◌≤◌, Bool, ltb, get_or, drop, count_by, IfOk};
+ghost use Rattle.std.specs.Prelude.{◌≡◌, ℕ, List, [], ◌∷◌, ◌++◌, ◌≤◌, Bool, ◌&&◌, leb, ltb, length, get_or, drop, count_by, IfOk, IsOkAnd};
 ghost use Rattle.std.specs.Fn.{FnReturnsAt};
+ghost use Rattle.std.specs.Int.Count.{ones};
 ghost use Rattle.sheet.specs.Sheet.{most_rounds, Lift, lifts};
 ghost use Rattle.sheet.specs.Lift.{entry_of};
 ghost use Rattle.tally.specs.Rounds.{rounds};
@@ -57,9 +58,17 @@ fn first_round<R, F: Fn(&R) -> bool>(table: &[R; Sheet::TABLE], test: F) -> Opti
     table.iter().skip(1).position(test).map(|k| k + 1)
 }
 
+// The first new round with three donors or more.
+fn first_crowded(t: &Tallies) -> Option<usize>
+    ensures { (d : NewRound) → result ≡ first_of (rounds (λ r. let n = get_or t.now.new r d in ltb 0 n.lifts && leb 3 (ones n.donors))) }
+{
+    first_round(&t.new, |n| 0 < n.lifts && 3 <= n.donors.count_ones())
+}
+
 // How many new rounds are in use.
 pub fn in_use(table: &[NewRound; Sheet::TABLE]) -> usize
-    ensures { result ≡ count_by (λ n. ltb 0 n.lifts) (drop 1 table.now) }
+    ensures entries { result ≡ count_by (λ n. ltb 0 n.lifts) (drop 1 table.now) }
+    ensures rounds { (d : NewRound) → result ≡ length (rounds (λ r. ltb 0 (get_or table.now r d).lifts)) }
 {
     table.iter().skip(1).filter(|r| 0 < r.lifts).count()
 }
@@ -104,13 +113,13 @@ pub fn examine(words: &[u32]) -> Result<Examined<'_>, Refusal>
     })
 }
 
-// The sheet to which refusal 10 does not apply either.
-pub fn with_donors(e: Examined<'_>) -> Result<FittingSheet<'_>, Refusal>
-    ensures said { verdict_of (counts_of result (λ f. f.counts)) ≡ verdict e.entry.sheet.words.now }
-    ensures same { IfOk result (λ f. f.sheet.words ≡ e.entry.sheet.words) }
+// The answer with refusal 10 behind 9, from the answer up to 9 and its tables.
+pub fn with_donors(examined: Result<Examined<'_>, Refusal>) -> Result<FittingSheet<'_>, Refusal>
+    ensures said { (ws : List ℕ) → verdict_of (counts_of examined.entry (λ e. e.counts)) ≡ verdict_by nothing_more ws → IfOk examined.entry (λ e. e.sheet.words.now ≡ ws) → verdict_of (counts_of result (λ f. f.counts)) ≡ verdict ws }
+    ensures same { IfOk result (λ f. IsOkAnd examined.entry (λ e. f.sheet.words ≡ e.sheet.words)) }
 {
-    let new = &e.tallies.new;
-    if let Some(r) = first_round(new, |n| 0 < n.lifts && 3 <= n.donors.count_ones()) {
+    let e = examined?;
+    if let Some(r) = first_crowded(&e.tallies) {
         return Err(Refusal::TooManyDonors(r));
     }
     Ok(FittingSheet {
@@ -121,11 +130,12 @@ pub fn with_donors(e: Examined<'_>) -> Result<FittingSheet<'_>, Refusal>
 }
 
 // The sheet of words with its tables, or the first of all refusals of a sheet that applies to it.
+#[tactic(auto, using(crate::proofs::Sheets::words_now, crate::proofs::Sheets::words_same))]
 pub fn fitting(words: &[u32]) -> Result<FittingSheet<'_>, Refusal>
     ensures said { verdict_of (counts_of result (λ f. f.counts)) ≡ verdict words.now }
     ensures same { IfOk result (λ f. f.sheet.words ≡ words.entry) }
 {
-    with_donors(examine(words)?)
+    with_donors(examine(words))
 }
 
 // How many lifts and new rounds the sheet of words has, or the first of all refusals of a sheet that applies to it.
