@@ -3,7 +3,7 @@ use Rattle.std.specs.Prelude.{Some, Option, option_map, position, count_by}
 use Rattle.std.specs.List.{position_from}
 use Rattle.std.proofs.lemmas.Iterator.Adapters.{position_from-zero}
 use Rattle.std.proofs.lemmas.List.Sums.{sum_by-cons}
-use Prim.Native.Nat.{ℕ, suc, ◌+◌, ◌<◌}
+use Prim.Native.Nat.{ℕ, suc, ◌+◌, ◌≤◌, ◌<◌}
 use native.Mathlib.Numerals.{add-one}
 use native.Mathlib.Omega.{arith}
 use mathlib.Core.Path.{◌≡◌, refl, sym, ap, ◌∙◌}
@@ -28,11 +28,12 @@ sought p d q i (y ∷ ys) h =
     go true o rs e = ap Some (add-one i)
     go false o rs e = e
 
-pub found : {A : Type 0} (p : A → Bool) (d : A) (xs : List A) → length xs ≡ most_rounds + 1 → option_map (λ k. k + 1) (position p (drop 1 xs)) ≡ found_first (rounds (λ r. p (get_or xs r d)))
-found p d [] e = absurd (omega arith)
-found p d (x ∷ xs) e =
+-- where the test of a round is that of its entry
+pub found : {A : Type 0} (p : A → Bool) (d : A) (q : ℕ → Bool) (xs : List A) → length xs ≡ most_rounds + 1 → ((r : ℕ) → r ≤ most_rounds → q r ≡ p (get_or xs r d)) → option_map (λ k. k + 1) (position p (drop 1 xs)) ≡ found_first (rounds q)
+found p d q [] e h = absurd (omega arith)
+found p d q (x ∷ xs) e h =
     let l : length xs ≡ most_rounds = omega arith in
-    ap (option_map (λ k. k + 1)) (position_from-zero p xs) ∙ rw l at (sought p d (λ r. p (get_or (x ∷ xs) r d)) 0 xs (λ k h. let z : 0 + k ≡ k = omega arith in ap (λ j. p (get_or xs j d)) z))
+    ap (option_map (λ k. k + 1)) (position_from-zero p xs) ∙ rw l at (sought p d q 0 xs (λ k m. let z : suc (0 + k) ≡ suc k = omega arith in ap q z ∙ h (suc k) (omega arith)))
 
 -- along the table from round i up
 counted_from : {A : Type 0} (p : A → Bool) (d : A) (q : ℕ → Bool) (i : ℕ) (ys : List A) → ((k : ℕ) → k < length ys → q (i + k) ≡ p (get_or ys k d))
