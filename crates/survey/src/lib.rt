@@ -3,12 +3,11 @@
 
 ghost use Rattle.std.specs.Prelude.{◌≡◌, ℕ, List, [], ◌∷◌, ◌++◌, ◌≤◌, Bool, ◌&&◌, leb, ltb, length, get_or, drop, count_by, IfOk, IsOkAnd};
 ghost use Rattle.std.specs.Fn.{FnReturnsAt};
-ghost use Rattle.std.specs.Int.Count.{ones};
 ghost use Rattle.sheet.specs.Sheet.{most_rounds, Lift, lifts};
 ghost use Rattle.sheet.specs.Lift.{entry_of};
 ghost use Rattle.tally.specs.Rounds.{rounds};
 ghost use Rattle.tally.specs.Verdict.{nothing_more, of_rounds, verdict_by, verdict, verdict_of, counts_of};
-ghost use Rattle.tally.specs.Tables.{Tabled, Room, found_first as first_of};
+ghost use Rattle.tally.specs.Tables.{donor_count, Tabled, Room, found_first as first_of};
 ghost use Rattle.tally.specs.declared.OldRound.{OldRound};
 ghost use Rattle.tally.specs.declared.NewRound.{NewRound};
 
@@ -32,9 +31,7 @@ fn add(t: &mut Tallies, l: Entry)
     let new = &mut t.new[l.to];
     new.lifts += 1;
     new.sum += l.new;
-    if 0 < l.old {
-        new.donors |= 1 << l.from;
-    }
+    new.donors[l.from / 64] |= u64::from(0 < l.old) << (l.from % 64);
 }
 
 // The tables of a legible sheet, in one walk over its lifts.
@@ -58,11 +55,18 @@ fn first_round<R, F: Fn(&R) -> bool>(table: &[R; Sheet::TABLE], test: F) -> Opti
     table.iter().skip(1).position(test).map(|k| k + 1)
 }
 
+// How many bits are set in two words.
+fn donor_count(words: [u64; 2]) -> u32
+    ensures { result ≡ donor_count words }
+{
+    words[0].count_ones() + words[1].count_ones()
+}
+
 // The first new round with three donors or more.
 fn first_crowded(t: &Tallies) -> Option<usize>
-    ensures { (d : NewRound) → result ≡ first_of (rounds (λ r. let n = get_or t.now.new r d in ltb 0 n.lifts && leb 3 (ones n.donors))) }
+    ensures { (d : NewRound) → result ≡ first_of (rounds (λ r. let n = get_or t.now.new r d in ltb 0 n.lifts && leb 3 (donor_count n.donors))) }
 {
-    first_round(&t.new, |n| 0 < n.lifts && 3 <= n.donors.count_ones())
+    first_round(&t.new, |n| 0 < n.lifts && 3 <= donor_count(n.donors))
 }
 
 // How many new rounds are in use.

@@ -1,13 +1,9 @@
 -- `survey::with_donors` meets its contract: a refusal up to 9 stays, else refusal 10, or an answer that still fits. Assumes nothing.
 use mathlib.Core.Path.{◌≡◌}
 use Rattle.std.specs.Prelude.{None}
-use lib.ListN.{get_or}
-use Rattle.std.proofs.Common.{rules}
-use Rattle.tally.specs.Rounds.{rounds}
-use Rattle.tally.specs.Tables.{found_first}
 use Rattle.tally.specs.Verdict.{fits, verdict}
 use Rattle.tally.proofs.Adding.{new_none}
-use Rattle.tally.proofs.Verdicts.{many, still_refused, at_too_many_donors, still_fits, judged_fits}
+use Rattle.tally.proofs.Verdicts.{still_refused, at_too_many_donors, still_fits, judged_fits}
 use Rattle.std.proofs.lemmas.Result.{err_from_is_err_and}
 use Rattle.survey.proofs.with_donors.Goals as goal
 use Rattle.survey.proofs.with_donors.Goals.{After-first_crowded}
