@@ -27,7 +27,7 @@ use Rattle.carry.proofs.Rounds.{remaining_counts, remaining_few}
 -- ---- how many remain
 
 -- those of new round 0 and those that remain are all
-pub remaining_all : (ls : List Lift) {new : List NewRound} → new ≡ table (new_round ls) → (get_or new 0 (record { lifts = 0; sum = 0; donors = 0 })).lifts + length (remaining ls) ≡ length ls
+pub remaining_all : (ls : List Lift) {new : List NewRound} → new ≡ table (new_round ls) → (get_or new 0 (record { lifts = 0; sum = 0; donors = [] })).lifts + length (remaining ls) ≡ length ls
 remaining_all ls e = rw (e, tabulate_at _ (most_rounds + 1) (new_round ls) 0 (omega arith)) (remaining_counts ls)
 
 -- the lifts that remain have room in the end word

@@ -93,7 +93,7 @@ abbrev no_old : OldRound
 no_old = record { lifts = 0; held = 0; sum = 0 }
 
 abbrev no_new : NewRound
-no_new = record { lifts = 0; sum = 0; donors = 0 }
+no_new = record { lifts = 0; sum = 0; donors = [] }
 
 -- the sum of a new round in its table
 abbrev new_sum : List NewRound → ℕ → ℕ

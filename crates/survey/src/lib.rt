@@ -1,13 +1,13 @@
 // The tables of a sheet by round, gathered in one walk, and the verdict on a sheet from them ("Refused because of the sheet" of document 01).
 #![tactic(auto)]
 
-ghost use Rattle.std.specs.Prelude.{◌≡◌, List, [], ◌∷◌, ◌++◌, ◌≤◌, Bool, ltb, get_or, drop, count_by, IfOk};
+ghost use Rattle.std.specs.Prelude.{◌≡◌, ℕ, List, [], ◌∷◌, ◌++◌, ◌≤◌, Bool, ◌&&◌, leb, ltb, length, get_or, drop, count_by, IfOk, IsOkAnd};
 ghost use Rattle.std.specs.Fn.{FnReturnsAt};
 ghost use Rattle.sheet.specs.Sheet.{most_rounds, Lift, lifts};
 ghost use Rattle.sheet.specs.Lift.{entry_of};
 ghost use Rattle.tally.specs.Rounds.{rounds};
 ghost use Rattle.tally.specs.Verdict.{nothing_more, of_rounds, verdict_by, verdict, verdict_of, counts_of};
-ghost use Rattle.tally.specs.Tables.{Tabled, Room, found_first as first_of};
+ghost use Rattle.tally.specs.Tables.{donor_count, Tabled, Room, found_first as first_of};
 ghost use Rattle.tally.specs.declared.OldRound.{OldRound};
 ghost use Rattle.tally.specs.declared.NewRound.{NewRound};
 
@@ -31,9 +31,7 @@ fn add(t: &mut Tallies, l: Entry)
     let new = &mut t.new[l.to];
     new.lifts += 1;
     new.sum += l.new;
-    if 0 < l.old {
-        new.donors |= 1 << l.from;
-    }
+    new.donors[l.from / 64] |= u64::from(0 < l.old) << (l.from % 64);
 }
 
 // The tables of a legible sheet, in one walk over its lifts.
@@ -57,9 +55,24 @@ fn first_round<R, F: Fn(&R) -> bool>(table: &[R; Sheet::TABLE], test: F) -> Opti
     table.iter().skip(1).position(test).map(|k| k + 1)
 }
 
+// How many bits are set in two words.
+fn donor_count(words: [u64; 2]) -> u32
+    ensures { result ≡ donor_count words }
+{
+    words[0].count_ones() + words[1].count_ones()
+}
+
+// The first new round with three donors or more.
+fn first_crowded(t: &Tallies) -> Option<usize>
+    ensures { (d : NewRound) → result ≡ first_of (rounds (λ r. let n = get_or t.now.new r d in ltb 0 n.lifts && leb 3 (donor_count n.donors))) }
+{
+    first_round(&t.new, |n| 0 < n.lifts && 3 <= donor_count(n.donors))
+}
+
 // How many new rounds are in use.
 pub fn in_use(table: &[NewRound; Sheet::TABLE]) -> usize
-    ensures { result ≡ count_by (λ n. ltb 0 n.lifts) (drop 1 table.now) }
+    ensures entries { result ≡ count_by (λ n. ltb 0 n.lifts) (drop 1 table.now) }
+    ensures rounds { (d : NewRound) → result ≡ length (rounds (λ r. ltb 0 (get_or table.now r d).lifts)) }
 {
     table.iter().skip(1).filter(|r| 0 < r.lifts).count()
 }
@@ -104,13 +117,13 @@ pub fn examine(words: &[u32]) -> Result<Examined<'_>, Refusal>
     })
 }
 
-// The sheet to which refusal 10 does not apply either.
-pub fn with_donors(e: Examined<'_>) -> Result<FittingSheet<'_>, Refusal>
-    ensures said { verdict_of (counts_of result (λ f. f.counts)) ≡ verdict e.entry.sheet.words.now }
-    ensures same { IfOk result (λ f. f.sheet.words ≡ e.entry.sheet.words) }
+// The answer with refusal 10 behind 9, from the answer up to 9 and its tables.
+pub fn with_donors(examined: Result<Examined<'_>, Refusal>) -> Result<FittingSheet<'_>, Refusal>
+    ensures said { (ws : List ℕ) → verdict_of (counts_of examined.entry (λ e. e.counts)) ≡ verdict_by nothing_more ws → IfOk examined.entry (λ e. e.sheet.words.now ≡ ws) → verdict_of (counts_of result (λ f. f.counts)) ≡ verdict ws }
+    ensures same { IfOk result (λ f. IsOkAnd examined.entry (λ e. f.sheet.words ≡ e.sheet.words)) }
 {
-    let new = &e.tallies.new;
-    if let Some(r) = first_round(new, |n| 0 < n.lifts && 3 <= n.donors.count_ones()) {
+    let e = examined?;
+    if let Some(r) = first_crowded(&e.tallies) {
         return Err(Refusal::TooManyDonors(r));
     }
     Ok(FittingSheet {
@@ -121,11 +134,12 @@ pub fn with_donors(e: Examined<'_>) -> Result<FittingSheet<'_>, Refusal>
 }
 
 // The sheet of words with its tables, or the first of all refusals of a sheet that applies to it.
+#[tactic(auto, using(crate::proofs::Sheets::words_now, crate::proofs::Sheets::words_same))]
 pub fn fitting(words: &[u32]) -> Result<FittingSheet<'_>, Refusal>
     ensures said { verdict_of (counts_of result (λ f. f.counts)) ≡ verdict words.now }
     ensures same { IfOk result (λ f. f.sheet.words ≡ words.entry) }
 {
-    with_donors(examine(words)?)
+    with_donors(examine(words))
 }
 
 // How many lifts and new rounds the sheet of words has, or the first of all refusals of a sheet that applies to it.

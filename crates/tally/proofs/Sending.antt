@@ -4,7 +4,6 @@ use mathlib.Core.Path.{◌≡◌, refl, sym, ap, ◌∙◌}
 use mathlib.Core.Bool.{Bool, true, false, cond, ◌&&◌, ◌||◌, and-false}
 use mathlib.Core.List.{List, [], ◌∷◌}
 use native.Mathlib.Omega.{arith}
-use lib.Count.{ones}
 use lib.Dec.{eqb, leb, ltb}
 use lib.ListN.{length}
 use borrow.Author.Tests.{le-ltb, ltb-false, ne_eqb, eqb-true}
@@ -14,7 +13,7 @@ use Rattle.sheet.specs.Sheet.{most_rounds, old_kind, Lift, lifts}
 use Rattle.sheet.specs.Reading.{Legible}
 use Rattle.tally.specs.Rounds.{lift_count, brings, sends, donors}
 use Rattle.tally.specs.Verdict.{too_many_donors}
-use Rattle.tally.specs.Tables.{donor_bits}
+use Rattle.tally.specs.Tables.{donor_bits, donor_count}
 use Rattle.sheet.specs.Law.{PlaceWellFormed, AllWellFormed}
 use Rattle.sheet.specs.Lift.{New}
 use Rattle.tally.proofs.Bits.{bits_ones}
@@ -68,16 +67,16 @@ one_term : (f : ℕ → ℕ) → Σ 1 f ≡ f 0 + 0
 unfolding over
 one_term f = refl
 
--- what 128 bits count is counted from 1 up, if nothing is counted at 0 and beyond the last round
-counted : (f : ℕ → ℕ) → f 0 ≡ 0 → ((i : ℕ) → f (1 + (most_rounds + i)) ≡ 0) → Σ 128 f ≡ Σ most_rounds (λ t. f (1 + t))
-counted f none beyond =
+-- what two words count is counted from 1 up, if nothing is counted at 0 and beyond the last round
+two_words : (f : ℕ → ℕ) → f 0 ≡ 0 → ((i : ℕ) → f (1 + (most_rounds + i)) ≡ 0) → Σ 64 f + Σ 64 (λ t. f (64 + t)) ≡ Σ most_rounds (λ t. f (1 + t))
+two_words f none beyond =
     let rest : ℕ = 127 - most_rounds in
     let e : Σ rest (λ i. f (1 + (most_rounds + i))) ≡ rest * 0 = over_ext ◌+◌ 0 rest (λ i h. beyond i) ∙ Σ-const rest 0 in
-    omega (arith, Σ-cut 1 127 f, one_term f, Σ-cut most_rounds rest (λ t. f (1 + t)))
+    omega (arith, Σ-cut 64 64 f, Σ-cut 1 127 f, one_term f, Σ-cut most_rounds rest (λ t. f (1 + t)))
 
-pub donors_count : (ws : List ℕ) → Legible ws → (r : ℕ) → ones (donor_bits r (lifts ws)) ≡ length (donors r (lifts ws))
+pub donors_count : (ws : List ℕ) → Legible ws → (r : ℕ) → donor_count (donor_bits r (lifts ws)) ≡ length (donors r (lifts ws))
 donors_count ws l r =
     let d = (read_theorem ws l.read).well_formed.listed in
-    rw (bits_ones, filter_count)
-    (counted (λ t. indicator (sends t r (lifts ws))) (ap indicator (sends_none 0 r (from_nowhere r) 0 (lifts ws) d))
+    rw (bits_ones, bits_ones, filter_count)
+    (two_words (λ t. indicator (sends t r (lifts ws))) (ap indicator (sends_none 0 r (from_nowhere r) 0 (lifts ws) d))
     (λ i. ap indicator (sends_none (1 + (most_rounds + i)) r (from_beyond (1 + (most_rounds + i)) r (omega arith)) 0 (lifts ws) d)))

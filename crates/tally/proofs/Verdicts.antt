@@ -6,7 +6,6 @@ use mathlib.Core.List.{List, [], ◌∷◌, map}
 use Rattle.std.specs.Prelude.{Option, Some, None}
 use native.Mathlib.Omega.{arith}
 use lib.Dec.{leb, ltb}
-use lib.Count.{ones}
 use lib.ListN.{length, get_or, drop}
 use Rattle.std.specs.Prelude.{count_by}
 use Rattle.std.proofs.lemmas.List.Sums.{sum_by-cons}
@@ -18,7 +17,7 @@ use Rattle.sheet.specs.Reading.{Reading, faulty, sound, of_words, Legible}
 use Rattle.tally.specs.Rounds.{rounds, lift_count, in_use}
 use Rattle.tally.specs.Verdict.{Verdict, refused, fits, not_one_held, oversize, zero_sum, too_many_donors, first_round, first_refusal, crowded, nothing_more, of_rounds, unless_faulty, verdict_by, verdict}
 use Rattle.reply.specs.Refusal.{refusal_of}
-use Rattle.tally.specs.Tables.{tabulate, table, old_round, new_round, Tabled, found_first}
+use Rattle.tally.specs.Tables.{tabulate, table, donor_count, old_round, new_round, Tabled, found_first}
 use Rattle.tally.specs.Law.{Nowhere, FitBy, Fit, FittingBy, Fitting, DecidedTheorem}
 use Rattle.sheet.specs.Lift.{Old, New}
 use Rattle.tally.specs.declared.OldRound.{OldRound}
@@ -64,9 +63,9 @@ in_use_lem ls ea e =
     ∙ over_ext ◌+◌ 0 most_rounds (λ i _. let q : suc i ≡ 1 + i = omega arith in ap (λ r. indicator (ltb 0 (lift_count New r ls))) q)
     ∙ sym (filter_count (λ r. ltb 0 (lift_count New r ls)) 1 most_rounds)
 
--- a new round that is in use, with three bits or more
+-- a new round that is in use, with three donors or more
 abbrev pub many : NewRound → Bool
-many n = ltb 0 n.lifts && leb 3 (ones n.donors)
+many n = ltb 0 n.lifts && leb 3 (donor_count n.donors)
 
 -- the rounds whose bits are three or more are those with too many donors
 crowded_rounds : (ws : List ℕ) → Legible ws → rounds (λ r. many (new_round (lifts ws) r)) ≡ rounds (too_many_donors (lifts ws))

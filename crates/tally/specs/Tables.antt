@@ -1,5 +1,6 @@
 -- The tables by round, as the code gathers them.
-use Rattle.std.specs.Prelude.{ℕ, zero, suc, ◌+◌, ◌*◌, ◌^◌, ◌<◌, Bool, ◌≡◌, List, [], ◌∷◌, Option, Some, None}
+use Rattle.std.specs.Prelude.{ℕ, zero, suc, ◌+◌, ◌*◌, ◌%◌, ◌^◌, ◌<◌, Bool, ◌&&◌, ◌≡◌, List, [], ◌∷◌, Option, Some, None, eqb, ltb, get_or}
+use Rattle.std.specs.Int.Count.{ones}
 use Rattle.probability.specs.Sum.{indicator}
 use Rattle.sheet.specs.Sheet.{most_rounds, Lift}
 use Rattle.tally.specs.Rounds.{lift_count, sum_of, held_count, sends}
@@ -23,9 +24,17 @@ unfoldable pub bits : ℕ → (ℕ → Bool) → ℕ
 bits zero p = 0
 bits (suc n) p = indicator (p 0) + 2 * bits n (λ t. p (suc t))
 
--- a bit for each old round, that is set if it is a donor of new round r
-abbrev pub donor_bits : ℕ → List Lift → ℕ
-donor_bits r ls = bits 128 (λ t. sends t r ls)
+-- the bit of an old round in its word of 64 bits, if a lift brings measure from it
+abbrev pub bit_of : (round measure : ℕ) → ℕ
+bit_of round measure = bits 64 (λ t. eqb (round % 64) t && ltb 0 measure)
+
+-- two words for new round r, with a bit for each old round, 0 to 63 and 64 to 127, that is set if it is a donor
+abbrev pub donor_bits : ℕ → List Lift → List ℕ
+donor_bits r ls = bits 64 (λ t. sends t r ls) ∷ bits 64 (λ t. sends (64 + t) r ls) ∷ []
+
+-- "the different old rounds that send it measure are counted": how many bits are set in the two words
+abbrev pub donor_count : List ℕ → ℕ
+donor_count words = ones (get_or words 0 0) + ones (get_or words 1 0)
 
 -- what some lifts make of an old round
 abbrev pub old_round : List Lift → ℕ → OldRound

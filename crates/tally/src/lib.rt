@@ -17,12 +17,12 @@ pub struct OldRound {
     pub sum: u64,
 }
 
-// A new round: how many lifts it has, its sum, and a bit for each old round that is set if it is a donor.
+// A new round: how many lifts it has, its sum, and two words with a bit for each old round that is set if it is a donor.
 #[derive(Clone, Copy)]
 pub struct NewRound {
     pub lifts: u64,
     pub sum: u64,
-    pub donors: u128,
+    pub donors: [u64; 2],
 }
 
 // Tables by round.
@@ -43,7 +43,7 @@ impl Tallies {
         new: [NewRound {
             lifts: 0,
             sum: 0,
-            donors: 0,
+            donors: [0; 2],
         }; Sheet::TABLE],
     };
 }

@@ -1,31 +1,30 @@
 -- `survey::add` meets its contract: both rounds of the lift grow by it, and its old round's bit is joined to its new round's. Assumes nothing.
-use mathlib.Core.Path.{◌≡◌, refl, ◌∙◌, ap, sym}
+use mathlib.Core.Path.{◌≡◌, refl, sym, ◌∙◌}
 use mathlib.Core.Bool.{Bool, true, false}
-use Prim.Native.Nat.{◌*◌, ◌%◌, ◌^◌, ◌≤◌, ◌<◌}
-use native.Mathlib.Nat.{one-mul}
+use Prim.Native.Nat.{ℕ, ◌*◌, ◌%◌, ◌^◌}
+use native.Mathlib.Nat.{one-mul, zero-mul}
 use native.Mathlib.Omega.{arith}
+use lib.Dec.{ltb}
 use lib.Pow.{shl_exact}
-use lib.Bits.{or_zero_r}
+use borrow.Author.Tests.{ltb-true, ltb-false}
 use mir.Val.{bool_byte}
 use Rattle.probability.specs.Sum.{indicator}
-use Rattle.sheet.specs.Sheet.{most_rounds, Lift}
-use Rattle.sheet.specs.Lift.{entry_of}
-use Rattle.sheet.specs.declared.Entry.{Entry}
-use Rattle.tally.specs.Rounds.{brings}
-use Rattle.tally.specs.Tables.{bits}
-use Rattle.tally.proofs.Adding.{new_none, old_none, tabled_more, none_brought, one_brought}
+use Rattle.tally.specs.Tables.{bit_of}
+use Rattle.tally.proofs.Bits.{bit_none, bit_one}
+use Rattle.tally.proofs.Adding.{new_none, tabled_more}
 use Rattle.survey.proofs.add.Goals as goal
 
 flagged : (b : Bool) → bool_byte b ≡ indicator b
 flagged true = refl
 flagged false = refl
 
--- the bit that the shift makes
-shifted : (l : Entry) (x : Lift) → l ≡ entry_of x → l.from ≤ most_rounds → 0 < l.old → bits 128 (λ t. brings t x.new.round x) ≡ 1 * 2 ^ l.from % 2 ^ 128
-shifted l x q h k =
-    rw q
-    (one_brought x (omega (arith, ap (λ e. e.from) q)) (omega (arith, ap (λ e. e.old) q))
-    ∙ sym (shl_exact 1 x.old.round 128 (omega (arith, ap (λ e. e.from) q)) (omega (arith, ap (λ e. e.from) q)) ∙ one-mul (2 ^ x.old.round)))
+-- a bit or none, shifted to its place
+shifted : (round measure : ℕ) → indicator (ltb 0 measure) * 2 ^ (round % 64) % 2 ^ 64 ≡ bit_of round measure
+shifted round measure = go (ltb 0 measure) refl
+  where
+    go : (t : Bool) → ltb 0 measure ≡ t → indicator t * 2 ^ (round % 64) % 2 ^ 64 ≡ bit_of round measure
+    go true e = shl_exact 1 (round % 64) 64 (omega arith) (omega arith) ∙ one-mul (2 ^ (round % 64)) ∙ sym (bit_one 64 (round % 64) measure (omega arith) (ltb-true 0 measure e))
+    go false e = rw (zero-mul (2 ^ (round % 64))) (sym (bit_none 64 (round % 64) measure (omega (arith, ltb-false 0 measure e))))
 
 pub overflow_add-old : goal.overflow_add-old
 overflow_add-old c = record { fits = (c.requires.room _ new_none).old_lifts }
@@ -36,14 +35,7 @@ overflow_add-old-2 c = record { fits = rw (c.from.ensures, flagged) (c.requires.
 pub overflow_add-old-3 : goal.overflow_add-old-3
 overflow_add-old-3 c = record { fits = (c.requires.room _ new_none).old_sum }
 
-pub returns-then-l-gt0 : goal.returns-then-l-gt0
-returns-then-l-gt0 c =
-    λ ls x q t.
+pub returns : goal.returns
+returns c = λ ls x q t.
     rw (c.from.ensures, flagged)
-    (tabled_more ls x _ _ t q c.requires.from_in_bounds c.requires.to_in_bounds (shifted c.args.l x q c.requires.from_in_bounds c.if-l-gt0.true))
-
-pub returns-else-l-gt0 : goal.returns-else-l-gt0
-returns-else-l-gt0 c =
-    λ ls x q t.
-    rw (c.from.ensures, flagged)
-    (rw or_zero_r at (tabled_more ls x old_none new_none t q c.requires.from_in_bounds c.requires.to_in_bounds (none_brought x (omega (arith, ap (λ e. e.old) q, c.if-l-gt0.false)))))
+    (tabled_more ls x _ _ t q c.requires.from_in_bounds c.requires.to_in_bounds (rw (c.from-2.ensures, flagged) (shifted c.args.l.from c.args.l.old)))

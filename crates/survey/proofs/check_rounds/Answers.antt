@@ -62,7 +62,7 @@ returns-in-Some-first_round-3 c =
 pub returns : goal.returns
 returns c =
     let at = goal.at.returns c in
-    ap₂ fits c.size.ensures (in_use_lem (lifts c.args.sheet.words.now) c.requires.new c.in_use.ensures)
+    ap₂ fits c.size.ensures (in_use_lem (lifts c.args.sheet.words.now) c.requires.new c.in_use.ensures.entries)
     ∙ at_last (lifts c.args.sheet.words.now)
     (sym c.in_default.is ∙ held at.After-first_round)
     (sym c.in_default-first_round.is ∙ old at.After-first_round-2)

@@ -17,4 +17,4 @@ returns g c = λ p h d.
       h x.now b (record { shown = x; shows = refl; says = record { met = (g.met.F.FnMut.1.post_iff c.args.test (x, tt) b).1 (q, record { met = k.met }) } }),
     )) in
     let m : c.map.result ≡ option_map (λ i. i + 1) c.position.result = search rules in
-    m ∙ ap (option_map (λ i. i + 1)) k ∙ found p d c.args.table.now c.type_inv.table
+    m ∙ ap (option_map (λ i. i + 1)) k ∙ found p d _ c.args.table.now c.type_inv.table (λ r l. refl)
