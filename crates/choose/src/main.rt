@@ -30,7 +30,7 @@ fn print_report(
     sheet: &Contents<SHEET_BYTES>,
     words: &Contents<WORDS_BYTES>,
 ) {
-    let text = report::report(sheet.kept(), sheet.size, words.kept());
+    let text = report::report(sheet.kept_bytes(), sheet.size, words.kept_bytes());
     print(rt, text.as_bytes(), sheet, words);
 }
 

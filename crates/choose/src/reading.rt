@@ -35,7 +35,7 @@ impl<const N: usize> Contents<N> {
         }
     }
 
-    // Reads a file until it ends or `most` bytes are counted; one that cannot be read counts as empty.
+    // Reads a file until it ends, or the bytes are full and `most` are counted; one that cannot be read counts as empty.
     pub fn read(&mut self, rt: &impl Files, path: &str, most: usize) {
         let extent = read_file(rt, path, &mut self.bytes, most).unwrap_or(Extent::EMPTY);
         self.kept = extent.kept;
@@ -43,7 +43,7 @@ impl<const N: usize> Contents<N> {
     }
 
     // The bytes that were kept.
-    pub fn kept(&self) -> &[u8]
+    pub fn kept_bytes(&self) -> &[u8]
         ensures is { result.now ≡ take self.now.size self.now.bytes }
         ensures room { length self.now.bytes ≡ N }
     {
@@ -63,7 +63,7 @@ impl Extent {
     const EMPTY: Extent = Extent { kept: 0, size: 0 };
 }
 
-// Reads a file into `bytes`, as many as fit, until it ends or `most` are counted.
+// Reads a file into `bytes` until it ends, or they are full and `most` are counted.
 fn read_file(rt: &impl Files, path: &str, bytes: &mut [u8], most: usize) -> io::Result<Extent>
     ensures { IfOk result (λ e. e.kept ≡ min e.size (length bytes.new)) }
 {
@@ -71,7 +71,7 @@ fn read_file(rt: &impl Files, path: &str, bytes: &mut [u8], most: usize) -> io::
     read_all(&mut file, bytes, most)
 }
 
-// Reads into `bytes`, as many as fit, and counts on until nothing is left or `most` are counted.
+// Reads into `bytes` until they are full, and counts on until nothing is left or `most` are counted.
 fn read_all<R: Read>(file: &mut R, bytes: &mut [u8], most: usize) -> io::Result<Extent>
     ensures kept { IfOk result (λ e. e.kept ≡ min e.size (length bytes.new)) }
     ensures read { IfOk result (λ e. (more : List ℕ) × (e.size ≡ e.kept + length more)

@@ -3,8 +3,7 @@ use Prim.Native.Nat.{ℕ, zero, suc, ◌+◌, ◌*◌, ◌-◌, ◌/◌, ◌≤�
 use mathlib.Core.Path.{◌≡◌, refl, sym, ap, ap₂, ◌∙◌}
 use mathlib.Core.Bool.{Bool, true, false}
 use mathlib.Core.List.{List, [], ◌∷◌, ◌++◌, append_assoc}
-use native.Mathlib.Nat.{le_refl, zero-add, suc-add, sub-zero, mul-zero, mul-sub, mul-le-mul_left, mul-div-le, div-lt_iff_lt-mul, mul-div_cancel_left, add-div_left, mul-add-div}
-use native.Mathlib.Numerals.{add-one}
+use native.Mathlib.Nat.{le_refl, zero-add, suc-add, sub-zero, mul-zero, mul-sub, mul-le-mul_left, mul-div-le, div-lt_iff_lt-mul, mul-div_cancel_left, mul-add-div}
 use native.Mathlib.Omega.{arith}
 use lib.Dec.{leb}
 use lib.ListN.{length, get_or, take, drop, set, length-append, length-drop}
@@ -88,16 +87,19 @@ module _ {A : Type 0} (k : ℕ) (xs : List A) where
   pub piece_lent : (i : ℕ) → i < length xs / k → take (k * i + k - k * i) (drop (k * i) xs) ≡ get_or (pieces k xs) i []
   piece_lent i h = let e : k * i + k - k * i ≡ k = omega arith in rw (e, piece_at i h)
 
--- one more piece in front
-pub pieces_more : {A : Type 0} (k : ℕ) (p xs : List A) → 0 < k → length p ≡ k → pieces k (p ++ xs) ≡ p ∷ pieces k xs
-unfolding cut
-pieces_more k p xs some e = rw (length-append p xs, e, add-div_left (length xs) some, add-one, take_at p xs k e, drop_at p xs k e)
-
 -- more whole pieces in front
 pub pieces_append : {A : Type 0} (k n : ℕ) (xs ys : List A) → 0 < k → length xs ≡ k * n → pieces k (xs ++ ys) ≡ pieces k xs ++ pieces k ys
 pieces_append k n xs ys some e =
     let front : cut k n (xs ++ ys) ≡ cut k n xs = sym (cut_within k n (k * n) (xs ++ ys) (le_refl _)) ∙ ap (cut k n) (take_at xs ys (k * n) e) in
     rw (length-append xs ys, e, mul-add-div some n (length ys), mul-div_cancel_left n some, cut_add k n (length ys / k) (xs ++ ys), drop_at xs ys (k * n) e, front) refl
+
+-- one more piece in front
+pub pieces_more : {A : Type 0} (k : ℕ) (p xs : List A) → 0 < k → length p ≡ k → pieces k (p ++ xs) ≡ p ∷ pieces k xs
+unfolding cut
+pieces_more k p xs some e =
+    let n : length p ≡ k * 1 = omega (arith, e) in
+    let one : pieces k p ≡ p ∷ [] = rw (n, mul-div_cancel_left 1 some, take_all k p (omega (arith, e))) refl in
+    pieces_append k 1 p xs some n ∙ rw one refl
 
 -- the pieces of a part that begins and ends at their borders
 pub pieces_part : {A : Type 0} (k a e : ℕ) (xs : List A) → 0 < k → a ≤ e → e ≤ length xs / k

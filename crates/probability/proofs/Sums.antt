@@ -113,7 +113,6 @@ unfolding total
 total_add f g [] = refl
 total_add f g (x ∷ xs) = omega (arith, total_add f g xs)
 
--- a list's sum as a sum over its indices
 -- a list cut at k
 pub total_cut : {A : Type 0} (f : A → ℕ) (k : ℕ) (xs : List A) → total (map f (take k xs)) + total (map f (drop k xs)) ≡ total (map f xs)
 unfolding total
@@ -121,6 +120,7 @@ total_cut f zero xs = omega arith
 total_cut f (suc k) [] = refl
 total_cut f (suc k) (x ∷ xs) = omega (arith, total_cut f k xs)
 
+-- a list's sum as a sum over its indices
 pub Σ-map : {A : Type 0} (f : A → ℕ) (d : A) (xs : List A) → Σ (length xs) (λ i. f (get_or xs i d)) ≡ total (map f xs)
 unfolding over total
 Σ-map f d [] = refl

@@ -1,4 +1,4 @@
--- The bits that are set in a number: the lowest, those that are left without it, and those of a number made of bits.
+-- The bits that are set in a number, and in two words: the lowest, those that are left without it, and those of a number made of bits.
 use Prim.Native.Nat.{ℕ, zero, suc, ◌+◌, ◌-◌, ◌*◌, ◌/◌, ◌%◌, ◌^◌, ◌<◌}
 use mathlib.Core.Path.{◌≡◌, refl, sym, ap, ap₂, ◌∙◌}
 use mathlib.Core.Bool.{Bool, true, false, cond}

@@ -1,4 +1,4 @@
--- The places of the bits that are set in a number.
+-- The places of the bits that are set in a number, and in two words of 64 bits.
 use Rattle.std.specs.Prelude.{ℕ, zero, suc, ◌/◌, ◌%◌, cond, Option, List, [], ◌∷◌, ◌++◌, eqb, get_or, slice_get}
 
 -- the places of the bits that are set among the lowest n, rising; the lowest bit has place a

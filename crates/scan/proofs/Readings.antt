@@ -42,12 +42,12 @@ place_fault s w f h = go (eqb (kind w) old_kind) refl
 abbrev Counted : (k w : ℕ) → Type 0
 Counted k w = (kind w ≡ k) × (misplaced w ≡ false) × ((place_of w).measure ≤ largest_sum)
 
--- a new place that is sound behind old place b: it is counted, or the lift was in a round before
-abbrev Known : (b c : ℕ) → Type 0
-Known b c = (kind c ≡ new_kind) × (misplaced c ≡ false) × (eqb (place_of b).round 0 ≡ false)
+-- a new place that is sound behind old place b, counted or not, since the lift was in a round before
+abbrev Returning : (b c : ℕ) → Type 0
+Returning b c = (kind c ≡ new_kind) × (misplaced c ≡ false) × (eqb (place_of b).round 0 ≡ false)
 
 -- words of a lift none of which is faulty
-pub sound_lift : (s : ScanState) (a b c : ℕ) → may_follow s.kind lift_kind ≡ true → kind a ≡ lift_kind → s.number < payload a → Counted old_kind b → Counted new_kind c ⊎ Known b c
+pub sound_lift : (s : ScanState) (a b c : ℕ) → may_follow s.kind lift_kind ≡ true → kind a ≡ lift_kind → s.number < payload a → Counted old_kind b → Counted new_kind c ⊎ Returning b c
     → (fault s a ≡ 0) × (fault (next_state s a) b ≡ 0) × (fault (next_state (next_state s a) b) c ≡ 0)
 unfolding fault
 sound_lift s a b c f k n o p = (
@@ -56,7 +56,7 @@ sound_lift s a b c f k n o p = (
   new_sound p,
 )
   where
-    new_sound : Counted new_kind c ⊎ Known b c → fault (next_state (next_state s a) b) c ≡ 0
+    new_sound : Counted new_kind c ⊎ Returning b c → fault (next_state (next_state s a) b) c ≡ 0
     new_sound (inl p) = let e = rw p.0 at p.1 in rw (k, o.0, p.0, e, ne_eqb (place_of c).measure not_counted (omega arith), and-false)
     new_sound (inr p) = let e = rw p.0 at p.1 in rw (k, o.0, p.0, e, p.2)
 

@@ -26,7 +26,7 @@ fn is_counted_place(kind: u32, word: u32) -> bool
 }
 
 // Whether a word is a sound new place, counted or not, of a lift with this old place in a round from 1 up.
-fn is_known_place(old: u32, new: u32) -> bool
+fn is_returning_place(old: u32, new: u32) -> bool
     ensures { result ≡ true → (kind_of new ≡ new_kind) × (misplaced_of new ≡ false) × (eqb (place_of old).round 0 ≡ false) }
 {
     Sheet::kind(new) == Sheet::NEW && !misplaced(new) && Sheet::round(old) != 0
@@ -48,7 +48,7 @@ fn is_sound_lift(s: State, lift: u32, old: u32, new: u32) -> bool
     if !is_counted_place(Sheet::OLD, old) {
         return false;
     }
-    is_counted_place(Sheet::NEW, new) || is_known_place(old, new)
+    is_counted_place(Sheet::NEW, new) || is_returning_place(old, new)
 }
 
 // The state and the words left behind the sound lifts that words begin with, three words a turn.

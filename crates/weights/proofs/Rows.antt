@@ -1,19 +1,21 @@
 -- The rows of a round and the sums over them.
-use Prim.Native.Nat.{ℕ, ◌/◌, ◌^◌, ◌≤◌, ◌<◌}
-use mathlib.Core.Path.{◌≡◌, refl, ap}
+use Prim.Native.Nat.{ℕ, ◌*◌, ◌-◌, ◌/◌, ◌^◌, ◌≤◌, ◌<◌}
+use mathlib.Core.Path.{◌≡◌, refl, ap, ◌∙◌}
 use mathlib.Core.List.{List, [], map, map-map}
 use native.Mathlib.Nat.{le_refl}
 use native.Mathlib.Omega.{arith}
-use lib.ListN.{length, take, length-map, get_or-map}
+use lib.ListN.{length, take, drop, length-map, get_or-map}
 use lib.Seq.{slice, take_all}
 use Rattle.std.specs.List.{sum_by, All}
 use Rattle.std.specs.Simd.{first_chunks}
 use Rattle.std.proofs.lemmas.List.Elements.{All-from_get_or}
 use Rattle.std.proofs.lemmas.List.Recursion.{is_sum_by}
 use Rattle.std.proofs.lemmas.List.Sums.{sum_by-take-drop}
+use Rattle.std.proofs.lemmas.List.{take-map, drop-map}
 use Rattle.probability.specs.Sum.{total}
 use Rattle.probability.proofs.Sums.{total_map, map_le}
-use Rattle.probability.proofs.Pieces.{chunks_pieces}
+use Rattle.probability.specs.Pieces.{pieces}
+use Rattle.probability.proofs.Pieces.{chunks_pieces, pieces_part}
 use Rattle.round.specs.Round.{lift_at, U, measure_from, weight_at, growth, G}
 use Rattle.round.specs.Rows.{lift_of_measures, row_length, row_lift, row_lifts}
 use Rattle.weights.specs.Scaling.{scaled, WeightsFit, LiftWeightsFit, Balanced}
@@ -72,6 +74,15 @@ block_room {s} {ls} a e u r = rw u (record {
   olds = omega (arith, slice_le (λ l. (scaled s l).old) a e ls, r.olds);
   news = omega (arith, slice_le (λ l. (scaled s l).new) a e ls, r.news);
 })
+
+-- a part of the rows is that part of the lifts
+pub rows_part : (a e : ℕ) (rows : List ℕ) → a ≤ e → e ≤ length rows / row_length
+    → row_lifts (take (row_length * e - row_length * a) (drop (row_length * a) rows)) ≡ slice a e (row_lifts rows)
+unfolding row_lifts
+rows_part a e rows h l =
+    let p = pieces row_length rows in
+    let part : slice a e (map row_lift p) ≡ map row_lift (slice a e p) = ap (drop a) (take-map row_lift e p) ∙ drop-map row_lift a (take e p) in
+    rw part (ap (map row_lift) (pieces_part row_length a e rows (omega arith) h l))
 
 -- and so has the sum of its growths
 pub G_room : {s : Scale} {ls : List Lift} (a e : ℕ) → WeightsFit s ls → G (map (scaled s) (slice a e ls)) ≤ 2 ^ 61

@@ -44,7 +44,7 @@ fn gathered(rows: &[[u32; Lift::ROW]]) -> [Lift; BLOCK]
     block
 }
 
-// The same among the lifts of a round of at most a block of them, which it lends.
+// The place of the lift in whose interval the position q falls, in a round of at most a block of lifts, which are lent to `pick`.
 fn pick_lent(block: &WeighedRound, q: u64) -> usize
     requires { length (row_lifts block.now.rows.now) ≤ block_length }
     ensures { result ≡ pick_of (map growth (weights_by block.now.scale block.now.rows.now)) q }

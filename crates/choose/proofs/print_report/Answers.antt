@@ -4,4 +4,4 @@ use Rattle.choose.proofs.Prints.{printed}
 use Rattle.choose.proofs.print_report.Goals as goal
 
 pub print-requires : goal.print-requires
-print-requires g c = printed c.args.sheet.now c.args.words.now c.kept.ensures.room c.kept-2.ensures.room (rw (c.kept.ensures.is, c.kept-2.ensures.is) at (c.as_bytes.ensures.is ∙ c.report-text.ensures))
+print-requires g c = printed c.args.sheet.now c.args.words.now c.kept_bytes.ensures.room c.kept_bytes-2.ensures.room (rw (c.kept_bytes.ensures.is, c.kept_bytes-2.ensures.is) at (c.as_bytes.ensures.is ∙ c.report-text.ensures))

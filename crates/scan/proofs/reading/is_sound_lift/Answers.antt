@@ -19,4 +19,4 @@ returns-else-is_counted_place c h = sound_lift _ _ _ _
     (sym c.kind.ensures ∙ c.if-kind-ne-LIFT.false)
     (omega (arith, c.payload.ensures, c.if-payload-s.false))
     (c.is_counted_place.ensures c.if-not-is_counted_place.false)
-    (inr (c.is_known_place.ensures h))
+    (inr (c.is_returning_place.ensures h))
