@@ -36,7 +36,9 @@ impl<const N: usize> Contents<N> {
     }
 
     // Reads a file until it ends, or the bytes are full and `most` are counted; one that cannot be read counts as empty.
-    pub fn read(&mut self, rt: &impl Files, path: &str, most: usize) {
+    pub fn read(&mut self, rt: &impl Files, path: &str, most: usize)
+        ensures { self.new.kept ≡ min self.new.size N }
+    {
         let extent = read_file(rt, path, &mut self.bytes, most).unwrap_or(Extent::EMPTY);
         self.kept = extent.kept;
         self.size = extent.size;
