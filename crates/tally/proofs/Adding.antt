@@ -87,16 +87,17 @@ module _ (ls : List Lift) (x : Lift) where
   donors_there f h =
       donors_more f x.new.round ls x ∙ ap (bit_or (sent f ls)) (bits_none 64 (λ t l. rw (ne_eqb x.old.round (f t) (h t l)) refl)) ∙ or_zero_r (sent f ls)
 
-  donors_grown : x.old.round ≤ most_rounds → donor_bits x.new.round (ls ++ x ∷ [])
+  -- so a word of its new round gets that bit; where its old round is beyond both words, neither does
+  donors_grown : donor_bits x.new.round (ls ++ x ∷ [])
       ≡ set (donor_bits x.new.round ls) (x.old.round / 64) (bit_or (get_or (donor_bits x.new.round ls) (x.old.round / 64) 0) (bit_of x.old.round x.old.measure))
-  donors_grown h = go (x.old.round / 64) refl
+  donors_grown = go (x.old.round / 64) refl
     where
       go : (k : ℕ) → x.old.round / 64 ≡ k → donor_bits x.new.round (ls ++ x ∷ []) ≡ set (donor_bits x.new.round ls) k (bit_or (get_or (donor_bits x.new.round ls) k 0) (bit_of x.old.round x.old.measure))
       go zero e =
           ap₂ (λ a b. a ∷ b ∷ []) (donors_here (λ t. t) (λ t l. same_test x.old.round t (x.old.round % 64) t (λ q. omega arith) (λ q. omega arith))) (donors_there (λ t. 64 + t) (λ t l q. omega arith))
       go (suc zero) e =
           ap₂ (λ a b. a ∷ b ∷ []) (donors_there (λ t. t) (λ t l q. omega arith)) (donors_here (λ t. 64 + t) (λ t l. same_test x.old.round (64 + t) (x.old.round % 64) t (λ q. omega arith) (λ q. omega arith)))
-      go (suc (suc k)) e = absurd (omega arith)
+      go (suc (suc k)) e = ap₂ (λ a b. a ∷ b ∷ []) (donors_there (λ t. t) (λ t l q. omega arith)) (donors_there (λ t. 64 + t) (λ t l q. omega arith))
 
 -- ---- the tables of more lifts
 
@@ -133,16 +134,16 @@ module _ (ls : List Lift) (x : Lift) where
         eq-eqb r r refl,
       ) refl
 
-  pub new_grown : x.old.round ≤ most_rounds → new_round (ls ++ x ∷ []) x.new.round
+  pub new_grown : new_round (ls ++ x ∷ []) x.new.round
       ≡ record {
         lifts = lift_count New x.new.round ls + 1;
         sum = sum_of New x.new.round ls + (place_at New x).measure;
         donors = set (donor_bits x.new.round ls) (x.old.round / 64) (bit_or (get_or (donor_bits x.new.round ls) (x.old.round / 64) 0) (bit_of x.old.round x.old.measure));
       }
-  new_grown h =
+  new_grown =
       let r : ℕ = x.new.round in
       rw (more (λ l. l.new.round) (λ _. 1) r ls x, more (λ l. l.new.round) (λ l. (place_at New l).measure) r ls x, eq-eqb r r refl)
-      (ap (λ d. record { lifts = lift_count New r ls + 1; sum = sum_of New r ls + (place_at New x).measure; donors = d }) (donors_grown ls x h))
+      (ap (λ d. record { lifts = lift_count New r ls + 1; sum = sum_of New r ls + (place_at New x).measure; donors = d }) (donors_grown ls x))
 
 -- the tables in which both its rounds grow are those of the lifts and it
 pub tabled_more : (ls : List Lift) (x : Lift) {t : Tallies} {l : Entry} (o : OldRound) (n : NewRound) {b : ℕ} → Tabled ls t → l ≡ entry_of x → l.from ≤ most_rounds → l.to ≤ most_rounds
@@ -168,7 +169,7 @@ tabled_more ls x o n t q hf ht e =
     rw (e, q, t.old, t.new, tabulate_at o (most_rounds + 1) (old_round ls) x.old.round hf', tabulate_at n (most_rounds + 1) (new_round ls) x.new.round ht')
     (record {
       old = set_tabulate (old_round ls) (old_round (ls ++ x ∷ [])) hf' (sym (old_grown ls x)) (old_other ls x);
-      new = set_tabulate (new_round ls) (new_round (ls ++ x ∷ [])) ht' (sym (new_grown ls x (omega arith))) (new_other ls x);
+      new = set_tabulate (new_round ls) (new_round (ls ++ x ∷ [])) ht' (sym (new_grown ls x)) (new_other ls x);
     })
 
 -- of no lifts all is 0
